@@ -1,0 +1,4 @@
+pub mod Records
+pub mod RecordsKept
+pub mod Fills
+pub mod FillsKept

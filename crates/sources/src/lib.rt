@@ -1,0 +1,3 @@
+// Sources that stand on a list of records or on another source.
+pub mod fill;
+pub mod records;

@@ -1,0 +1,7 @@
+pub mod Limits
+pub mod Told
+pub mod Determinants
+pub mod Answers
+pub mod Decisions
+pub mod DecisionsKept
+pub mod Sources
