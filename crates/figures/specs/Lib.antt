@@ -1,0 +1,4 @@
+pub mod Marks
+pub mod Cuts
+pub mod Numbers
+pub mod Tokens
