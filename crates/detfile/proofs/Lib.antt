@@ -1,0 +1,3 @@
+pub mod NameSteps
+pub mod ValueSteps
+pub mod LineSteps
