@@ -1,0 +1,3 @@
+// A determinant file as a source.
+pub mod asking;
+pub mod source;
