@@ -1,5 +1,6 @@
 // The day, the unit and the interval of a value line.
 ghost use mathlib.Core.Path.{_≡_};
+ghost use Rattle.terms.specs.Limits.{lastDay, lastUnit};
 ghost use Rattle.figures.specs.Tokens.{seen};
 ghost use Rattle.detfile.specs.Keys.{ranged, intervalBy, keyBy, keyOf, valuesPart, coversOf};
 use figures::cutting::cut_field;
@@ -51,7 +52,22 @@ fn ranged_number(field: &[u8], low: u32, high: u32) -> Result<u32, Fault>
     }
 }
 
-fn interval_of(token: Token<'_>) -> Result<Interval, Fault>
+// The day that a field writes.
+pub fn day_of(field: &[u8]) -> Result<u32, Fault>
+    ensures { λ r. ⌜ r ≡ ranged 0 lastDay (now (field .entry)) ⌝ }
+{
+    ranged_number(field, 0, LAST_DAY)
+}
+
+// The unit that a field writes.
+pub fn unit_of(field: &[u8]) -> Result<u32, Fault>
+    ensures { λ r. ⌜ r ≡ ranged 0 lastUnit (now (field .entry)) ⌝ }
+{
+    ranged_number(field, 0, LAST_UNIT)
+}
+
+// A star, or an interval's number.
+pub fn interval_of(token: Token<'_>) -> Result<Interval, Fault>
     ensures { λ r. ⌜ r ≡ intervalBy (seen (token .entry)) ⌝ }
 {
     match token {
@@ -78,8 +94,8 @@ pub fn cut_key(line: &[u8]) -> (Result<Key, Fault>, &[u8])
 fn key_of(day: &[u8], unit: &[u8], interval: Token<'_>) -> Result<Key, Fault>
     ensures { λ r. ⌜ r ≡ keyBy (now (day .entry)) (now (unit .entry)) (seen (interval .entry)) ⌝ }
 {
-    let day = ranged_number(day, 0, LAST_DAY)?;
-    let unit = ranged_number(unit, 0, LAST_UNIT)?;
+    let day = day_of(day)?;
+    let unit = unit_of(unit)?;
     let interval = interval_of(interval)?;
     Ok(Key {
         day,

@@ -35,7 +35,9 @@ fn cut_heading(line: &[u8]) -> (bool, &[u8])
     let (first, rest) = cut_field(line);
     let (second, rest) = cut_field(rest);
     let (third, rest) = cut_field(rest);
-    let heading = same_bytes(first, b"DAY") && same_bytes(second, b"UNIT") && same_bytes(third, b"INT");
+    let heading = same_bytes(first, b"DAY")
+        && same_bytes(second, b"UNIT")
+        && same_bytes(third, b"INT");
     (heading, rest)
 }
 

@@ -53,7 +53,11 @@ fn check_fields(columns: &[Determinant], line: &[u8]) -> Result<(), Fault>
 }
 
 // Checks a value line, which is line `number` of the file.
-pub(crate) fn check_line(columns: &[Determinant], line: &[u8], number: u32) -> Result<(), FileRefusal>
+pub(crate) fn check_line(
+    columns: &[Determinant],
+    line: &[u8],
+    number: u32,
+) -> Result<(), FileRefusal>
     requires { ⌜ length (now columns) ≤ 13 ⌝ }
     ensures { λ r. ⌜ r ≡ lineJudged (now (columns .entry)) number (now (line .entry)) ⌝ }
 {

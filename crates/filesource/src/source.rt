@@ -22,7 +22,12 @@ pub struct FileSource<'a> {
 
 impl<'a> FileSource<'a> {
     // An accepted file, with its columns and value lines.
-    pub(crate) fn open(bytes: &'a [u8], verdict: Result<u32, FileRefusal>, columns: Columns, values: &'a [u8]) -> FileSource<'a>
+    pub(crate) fn open(
+        bytes: &'a [u8],
+        verdict: Result<u32, FileRefusal>,
+        columns: Columns,
+        values: &'a [u8],
+    ) -> FileSource<'a>
         requires { ⌜ verdict ≡ judged (now bytes) ⌝ }
         requires { ⌜ numbers (take (columns .count) (columns .determinants)) ≡ numbers (columnsOf (now bytes)) ⌝ }
         requires { ⌜ now values ≡ valuesOf (now bytes) ⌝ }

@@ -3,8 +3,11 @@ ghost use mathlib.Core.Path.{_≡_};
 ghost use Rattle.terms.specs.Limits.{inside};
 
 pub const LAST_DETERMINANT: u32 = 13;
+
 pub const LAST_UNIT: u32 = 127;
+
 pub const LAST_DAY: u32 = 65_535;
+
 pub const LAST_INTERVAL: u32 = 96;
 
 // The most that a stored number may lie away from zero.

@@ -16,9 +16,9 @@ returns c =
     let bs = s .bytes .now in
     let ks = c .as-slice .ensures .value ∙ same-numbers _ (columns bs) (s .headed) in
     let e : c .ask-lines .result ≡ decide (lineSays (columns bs) (q .determinant) (q .unit) (q .day) (q .interval)) NoCut (valueLines bs) =
-        c .ask-lines .ensures
-        ∙ ap (λ l. decide (lineSays l (q .determinant) (q .unit) (q .day) (q .interval)) NoCut (lines (s .values .now))) ks
-        ∙ ap (λ v. decide (lineSays (columns bs) (q .determinant) (q .unit) (q .day) (q .interval)) NoCut (lines v)) (s .valued) in
+    c .ask-lines .ensures
+    ∙ ap (λ l. decide (lineSays l (q .determinant) (q .unit) (q .day) (q .interval)) NoCut (lines (s .values .now))) ks
+    ∙ ap (λ v. decide (lineSays (columns bs) (q .determinant) (q .unit) (q .day) (q .interval)) NoCut (lines v)) (s .valued) in
     record {
       table = e ∙ sym (cond-true _ _ _ (sym (c .if-not-is-inside .ensures tt)));
       law = λ _. decision (lineSays (columns bs) (q .determinant) (q .unit) (q .day) (q .interval)) (valueLines bs) (c .ask-lines .result) e;

@@ -18,7 +18,7 @@ loop-record-again c =
     let rs = c .args .self .now .records .now in (
       omega arith,
       ap (λ a. decide says a (drop (c .loop-record .record-index + 1) rs)) (c .after-answer .ensures ∙ ap (later (c .loop-record .answer)) (c .says .ensures))
-      ∙ sym (decide-more says rs (c .loop-record .record-index) _ (c .loop-record .answer) (c .loop-record-test .taken)) ∙ c .loop-record .inv .1,
+          ∙ sym (decide-more says rs (c .loop-record .record-index) _ (c .loop-record .answer) (c .loop-record-test .taken)) ∙ c .loop-record .inv .1,
     )
 
 pub returns : need.returns
