@@ -1,23 +1,11 @@
 // What a list of records answers.
-use crate::questions::Ask;
-use crate::questions::Place;
-use crate::questions::check_asks;
-use sources::records::Record;
+use super::Ask;
+use super::check_asks;
+use super::record;
 use sources::records::RecordSource;
 use sources::records::RecordSourceSource;
 use std::test::*;
 use terms::answer::Answer;
-
-pub(crate) fn record(place: Place, number: i64) -> Record {
-    let [determinant, unit, day, interval] = place;
-    Record {
-        determinant,
-        unit,
-        day,
-        interval,
-        number,
-    }
-}
 
 const ANSWERS: [Ask; 13] = [
     ([8, 2, 1, 7], Answer::Figure(30)),
@@ -54,7 +42,7 @@ const ONLY_SOUND: [Ask; 9] = [
     ([8, 2, 1, 8], Answer::Null),
     ([9, 2, 1, 7], Answer::NoCut),
     ([10, 2, 1, 7], Answer::NoCut),
-    ([11, 2, 1, 97], Answer::NoCut),
+    ([10, 2, 1, 97], Answer::NoCut),
     ([0, 2, 1, 7], Answer::NoCut),
     ([14, 2, 1, 7], Answer::NoCut),
     ([8, 128, 1, 7], Answer::NoCut),

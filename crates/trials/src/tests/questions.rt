@@ -1,33 +1,10 @@
-// Questions and answers, and the trial of a source by a list of them.
+// The ranges of a question, and how answers follow one another.
+use super::Place;
+use super::question;
 use std::test::*;
 use terms::answer::Answer;
 use terms::answer::AnswerDebug;
 use terms::answer::AnswerPartialEq;
-use terms::question::Question;
-use terms::source::Source;
-
-// A question's determinant, unit, day and interval.
-pub(crate) type Place = [u32; 4];
-
-// Where a source is asked, and what it answers.
-pub(crate) type Ask = (Place, Answer);
-
-fn question_at(place: Place) -> Question {
-    let [determinant, unit, day, interval] = place;
-    Question {
-        determinant,
-        unit,
-        day,
-        interval,
-    }
-}
-
-pub(crate) fn check_asks<S: Source>(source: &S, asks: &[Ask]) -> Result<(), Fail> {
-    for (i, (place, answer)) in asks.iter().enumerate() {
-        check_eq(source.ask(question_at(*place)), *answer).note(format_args!("question {i}"))?;
-    }
-    Ok(())
-}
 
 const INSIDE: [(Place, bool); 9] = [
     ([1, 0, 0, 1], true),
@@ -44,7 +21,7 @@ const INSIDE: [(Place, bool); 9] = [
 #[test]
 fn ranges() -> Result<(), Fail> {
     for (place, inside) in &INSIDE {
-        check_eq(question_at(*place).is_inside(), *inside)?;
+        check_eq(question(*place).is_inside(), *inside)?;
     }
     Ok(())
 }

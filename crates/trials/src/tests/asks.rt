@@ -1,6 +1,6 @@
 // What a determinant file answers.
-use crate::questions::Ask;
-use crate::questions::check_asks;
+use super::Ask;
+use super::check_asks;
 use filesource::asking::FileSourceSource;
 use filesource::source::FileSource;
 use std::test::*;
@@ -83,7 +83,7 @@ fn places() -> Result<(), Fail> {
     )
 }
 
-// A file that is refused at its second value line, one with no value line and one with nothing.
+// A refused file, one with no value line and an empty one have no cut anywhere.
 const NOTHING: [Ask; 2] = [([8, 2, 1, 7], Answer::NoCut), ([8, 2, 1, 8], Answer::NoCut)];
 
 #[test]

@@ -1,7 +1,7 @@
 // Zero for null, over records and over a file.
-use crate::questions::Ask;
-use crate::questions::check_asks;
-use crate::records::record;
+use super::Ask;
+use super::check_asks;
+use super::record;
 use filesource::asking::FileSourceSource;
 use filesource::source::FileSource;
 use sources::fill::ZeroFill;
