@@ -1,8 +1,11 @@
 // What the check of a file answers.
 use detfile::check::MOST_BYTES;
 use detfile::check::check_file;
+use detfile::columns::Columns;
+use detfile::names::columns_of;
 use std::alloc::Global;
 use std::test::*;
+use terms::determinant::Determinant;
 
 // The number of value lines, or the answer's number and the line at fault.
 type Told = Result<u32, (u32, u32)>;
@@ -29,7 +32,7 @@ fn check_within(heap: Global, before: &[u8], after: &[u8], cases: &[Case]) -> Re
 }
 
 // Whole files, none of them with a value line.
-const NAMES: [Case; 32] = [
+const NAMES: [Case; 35] = [
     (b"", Err((2, 1))),
     (b"\n", Err((2, 1))),
     (b"\nDAY UNIT INT RTSPP\n", Err((2, 1))),
@@ -58,6 +61,9 @@ const NAMES: [Case; 32] = [
     (b"UNIT DAY INT RTSPP\n", Err((2, 1))),
     (b"DAY INT UNIT RTSPP\n", Err((2, 1))),
     (b"DAY UNIT RTSPP INT\n", Err((2, 1))),
+    (b"UNIT UNIT INT RTSPP\n", Err((2, 1))),
+    (b"DAY DAY INT RTSPP\n", Err((2, 1))),
+    (b"DAY UNIT UNIT RTSPP\n", Err((2, 1))),
     (b"DAY UNIT INT  RTSPP\n", Err((2, 1))),
     (b"DAY  UNIT INT RTSPP\n", Err((2, 1))),
     (b" DAY UNIT INT RTSPP\n", Err((2, 1))),
@@ -75,14 +81,24 @@ fn names_line(rt: LibcRuntime) -> Result<(), Fail> {
     check_within(rt.alloc(), b"", b"", &NAMES)
 }
 
+#[test]
+fn columns() -> Result<(), Fail> {
+    check(Columns::none().as_slice().is_empty())?;
+    let Some(columns) = columns_of(b"DAY UNIT INT LRS OWNER") else {
+        return Err(Fail::new("no names line"));
+    };
+    check(matches!(columns.as_slice(), [Determinant::Lrs, Determinant::Owner]))
+}
+
 // Below the names of two determinants: how many fields, and where they are cut.
-const LINES: [Case; 27] = [
+const LINES: [Case; 28] = [
     (b"", Ok(0)),
     (b"1 2 3 4 5\n", Ok(1)),
     (b"1 2 3 4 5\n1 2 3 4 5\n1 2 * - -\n", Ok(3)),
     (b"1 2 3 4 5", Err((3, 2))),
     (b"1 2 3 4 5\n1 2 3 4 5", Err((3, 3))),
     (b"\n", Err((3, 2))),
+    (b"\n1 2 3 4 5\n", Err((3, 2))),
     (b"1 2 3 4 5\n\n", Err((3, 3))),
     (b"1 2 3 4 5\n ", Err((3, 3))),
     (b"1 2 3 4\n", Err((3, 2))),

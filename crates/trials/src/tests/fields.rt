@@ -74,3 +74,9 @@ fn stored_numbers() -> Result<(), Fail> {
     check_stored(Determinant::Rtspp, &PRICES)?;
     check_stored(Determinant::Lrs, &SHARES)
 }
+
+#[test]
+fn fault_numbers() -> Result<(), Fail> {
+    check_eq(Fault::Form.number(), 4)?;
+    check_eq(Fault::Beyond.number(), 5)
+}
