@@ -48,10 +48,22 @@ const PRICES: [(&[u8], Result<i64, Fault>); 9] = [
     (b"2.650", Err(Fault::Form)),
 ];
 
-const SHARES: [(&[u8], Result<i64, Fault>); 7] = [
+const LEVELS: [(&[u8], Result<i64, Fault>); 5] = [
+    (b"7", Ok(7_000)),
+    (b"7.5", Ok(7_500)),
+    (b"-7.25", Ok(-7_250)),
+    (b"7.125", Ok(7_125)),
+    (b"7.0625", Err(Fault::Form)),
+];
+
+const SHARES: [(&[u8], Result<i64, Fault>); 11] = [
     (b"1", Ok(1_000_000)),
+    (b"-0.5", Ok(-500_000)),
+    (b"0.25", Ok(250_000)),
+    (b"0.125", Ok(125_000)),
+    (b"0.0625", Ok(62_500)),
+    (b"0.03125", Ok(31_250)),
     (b"0.000001", Ok(1)),
-    (b"-0.1", Ok(-100_000)),
     (b"999.999999", Ok(999_999_999)),
     (b"1000.000000", Ok(1_000_000_000)),
     (b"1000.000001", Err(Fault::Beyond)),
@@ -72,6 +84,7 @@ fn check_stored(
 fn stored_numbers() -> Result<(), Fail> {
     check_stored(Determinant::Owner, &OWNERS)?;
     check_stored(Determinant::Rtspp, &PRICES)?;
+    check_stored(Determinant::Hsl, &LEVELS)?;
     check_stored(Determinant::Lrs, &SHARES)
 }
 
