@@ -1,6 +1,7 @@
 -- What digits write, and what a figure is stored as. Assumes nothing.
+use mathlib.Core.Path.{_≡_}
 use mathlib.Core.Bool.{Bool, true, false, cond, _&&_}
-use mathlib.Core.List.{List, [], _∷_}
+use mathlib.Core.List.{List, [], _∷_, _++_}
 use Prim.Native.Nat.{ℕ, _+_, _-_, _*_, _^_}
 use lib.Dec.{leb, eqb}
 use lib.IntN.{ℤ, pos, negℤ}
@@ -54,3 +55,9 @@ storedBy d bs = cond (eqb (getD bs 0 0) 45) (bounded true (magnitude d (drop 1 b
 -- the stored number of a determinant's figure
 abbrev pub stored : Determinant → List ℕ → Result ℤ Fault
 stored k bs = storedBy (decimalsOf k) bs
+
+-- A figure is stored exactly. Read without its point, its digits write a whole number v; with k digits after the point the figure is v over
+-- 10 to the k, and the stored size n is the figure times 10 to the d.
+pub record Exactly : Type 0 where
+  pub whole : (d : ℕ) (bs : List ℕ) (n : ℕ) → None ≡ cut 46 bs → magnitude d bs ≡ Some n → (v : ℕ) × (valueOn 0 bs ≡ Some v) × (n ≡ v * 10 ^ d)
+  pub pointed : (d : ℕ) (bs ws fs : List ℕ) (n : ℕ) → Some (ws, fs) ≡ cut 46 bs → magnitude d bs ≡ Some n → (v : ℕ) × (valueOn 0 (ws ++ fs) ≡ Some v) × (n * 10 ^ length fs ≡ v * 10 ^ d)

@@ -3,7 +3,7 @@ ghost use mathlib.Core.Path.{_≡_};
 ghost use Prim.Native.Nat.{_*_, _^_, _<_, _≤_};
 ghost use lib.ListN.{length};
 ghost use Rattle.std.specs.Slices.{found};
-ghost use Rattle.figures.specs.Numbers.{faultNumber, valueOn, counted, magnitude, bounded, stored};
+ghost use Rattle.figures.specs.Numbers.{faultNumber, valueOn, counted, magnitude, bounded, stored, Exactly};
 use crate::cutting::cut_at;
 use crate::marks::Mark;
 use crate::marks::mark_of;
@@ -131,3 +131,8 @@ pub fn stored_number(field: &[u8], determinant: Determinant) -> Result<i64, Faul
         rest => limited(scaled(rest, decimals), false),
     }
 }
+
+// What is stored is the figure times ten to the decimals, exactly.
+pub fn figures_exact()
+    ensures { λ _. ⌜ Exactly ⌝ }
+{}
