@@ -48,15 +48,28 @@ fn question_of(determinant: Determinant, place: &[String]) -> Option<Question> {
     let [unit, day, interval] = place else {
         return None;
     };
-    let unit = unit.parse::<u32>().ok()?;
-    let day = day.parse::<u32>().ok()?;
-    let interval = interval.parse::<u32>().ok()?;
+    let unit = number_of(unit.as_str())?;
+    let day = number_of(day.as_str())?;
+    let interval = number_of(interval.as_str())?;
     Some(Question {
         determinant: determinant.number(),
         unit,
         day,
         interval,
     })
+}
+
+// The number that digits write. One that is too large for a question lies outside every range, as does the largest that is not.
+fn number_of(word: &str) -> Option<u32> {
+    if word.is_empty() {
+        return None;
+    }
+    for b in word.as_bytes() {
+        if !b.is_ascii_digit() {
+            return None;
+        }
+    }
+    Some(word.parse::<u32>().unwrap_or(u32::MAX))
 }
 
 fn answer(

@@ -124,7 +124,7 @@ fn explain_shape(heap: Global, bytes: &[u8], number: u32) -> Result<String, Allo
     let fields = count_spaces(line).saturating_add(1);
     format!(
         heap,
-        "the line has {fields} fields, and the names line has {wanted}; every single space separates two fields"
+        "fields found: {fields}, expected: {wanted}, as in the names line; every single space separates two fields"
     )
 }
 
@@ -186,14 +186,18 @@ fn explain_value(
     let found = quoted(heap, field)?;
     let name = name_of(d);
     let decimals = d.decimals();
-    match fault {
-        Fault::Beyond => format!(
+    match (fault, decimals) {
+        (Fault::Beyond, _) => format!(
             heap,
             "field {at}, {name}, is {found}; times ten to the {decimals} it lies beyond {MOST_STORED}"
         ),
-        Fault::Form => format!(
+        (Fault::Form, 0) => format!(
             heap,
-            "field {at}, {name}, is {found}; expected - or a figure: a minus or none, one to ten digits, and at most {decimals} more after a point"
+            "field {at}, {name}, is {found}; expected - or a whole number: a minus or none, and one to ten digits"
+        ),
+        (Fault::Form, _) => format!(
+            heap,
+            "field {at}, {name}, is {found}; expected - or a figure: a minus or none, one to ten digits, and nothing or a point with one to {decimals} digits"
         ),
     }
 }
