@@ -1,3 +1,4 @@
 pub mod NameSteps
 pub mod ValueSteps
 pub mod LineSteps
+pub mod VerdictProofs

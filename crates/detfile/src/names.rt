@@ -9,8 +9,8 @@ use crate::columns::Columns;
 use crate::columns::MOST_COLUMNS;
 use figures::cutting::count_spaces;
 use figures::cutting::cut_field;
+use terms::bytes::same_bytes;
 use terms::determinant::Determinant;
-use terms::determinant::same_bytes;
 
 // The most bytes that a line may have before its line feed.
 pub const MOST_LINE: usize = 255;

@@ -5,9 +5,10 @@ use crate::load::load;
 use detfile::check::check_file;
 use detfile::refusal::FileRefusal;
 use std::error::AnyError;
+use std::io;
 
 // One line for each file; false where one is refused or cannot be read.
-pub(crate) fn run(rt: &LibcRuntime, console: &Console, paths: &[String]) -> Result<bool, AnyError> {
+pub(crate) fn run(rt: &LibcRuntime, console: Console, paths: &[String]) -> Result<bool, AnyError> {
     let mut sound = true;
     for path in paths {
         let one = check_one(rt, console, path.as_str())?;
@@ -16,14 +17,10 @@ pub(crate) fn run(rt: &LibcRuntime, console: &Console, paths: &[String]) -> Resu
     Ok(sound)
 }
 
-fn check_one(rt: &LibcRuntime, console: &Console, path: &str) -> Result<bool, AnyError> {
+fn check_one(rt: &LibcRuntime, console: Console, path: &str) -> Result<bool, AnyError> {
     let bytes = match load(rt, path) {
         Ok(bytes) => bytes,
-        Err(e) => {
-            let message = format!(rt.alloc(), "{path}: cannot be read: {e}")?;
-            console.complain(rt, message.as_str())?;
-            return Ok(false);
-        }
+        Err(e) => return say_unreadable(rt, console, path, e),
     };
     match check_file(bytes.as_slice()) {
         Ok(count) => {
@@ -48,4 +45,15 @@ pub(crate) fn say_refused(
     let line = refusal.line();
     println!(rt, "{path}: refused, answer {answer} at line {line}: {why}")?;
     Ok(())
+}
+
+pub(crate) fn say_unreadable(
+    rt: &LibcRuntime,
+    console: Console,
+    path: &str,
+    e: io::Error,
+) -> Result<bool, AnyError> {
+    let message = format!(rt.alloc(), "{path}: cannot be read: {e}")?;
+    console.complain(rt, message.as_str())?;
+    Ok(false)
 }

@@ -18,8 +18,8 @@ use figures::tokens::token_of;
 use std::alloc::AllocError;
 use std::alloc::Global;
 use std::str::from_utf8;
+use terms::bytes::same_bytes;
 use terms::determinant::Determinant;
-use terms::determinant::same_bytes;
 use terms::question::LAST_DAY;
 use terms::question::LAST_INTERVAL;
 use terms::question::LAST_UNIT;
@@ -34,14 +34,25 @@ pub(crate) fn explain(
         FileRefusal::TooLong => format!(heap, "the file has more than {MOST_BYTES} bytes"),
         FileRefusal::Names => match cut_line(bytes) {
             Some((names, _)) => explain_names(heap, names),
-            None => format!(
-                heap,
-                "the first line, which should hold the names, has no line feed"
-            ),
+            None => explain_unnamed(heap, bytes),
         },
         FileRefusal::Shape(line) => explain_shape(heap, bytes, line),
         FileRefusal::Form(line) => explain_fields(heap, bytes, line),
         FileRefusal::Beyond(line) => explain_fields(heap, bytes, line),
+    }
+}
+
+fn explain_unnamed(heap: Global, bytes: &[u8]) -> Result<String, AllocError> {
+    if bytes.is_empty() {
+        format!(
+            heap,
+            "the file is empty; its first line should hold the names"
+        )
+    } else {
+        format!(
+            heap,
+            "the file has no line feed; its first line should hold the names and end with one"
+        )
     }
 }
 
@@ -56,16 +67,32 @@ fn explain_names(heap: Global, names: &[u8]) -> Result<String, AllocError> {
     let (first, rest) = cut_field(names);
     let (second, rest) = cut_field(rest);
     let (third, rest) = cut_field(rest);
-    if !same_bytes(first, b"DAY") || !same_bytes(second, b"UNIT") || !same_bytes(third, b"INT") {
-        return format!(
-            heap,
-            "the names line must begin with the three names DAY UNIT INT, one space between them"
-        );
+    if !same_bytes(first, b"DAY") {
+        return explain_heading(heap, 1, first, "DAY");
+    }
+    if !same_bytes(second, b"UNIT") {
+        return explain_heading(heap, 2, second, "UNIT");
+    }
+    if !same_bytes(third, b"INT") {
+        return explain_heading(heap, 3, third, "INT");
     }
     if count_spaces(names) < 3 {
         return format!(heap, "the names line has no determinant after DAY UNIT INT");
     }
     explain_columns(heap, rest)
+}
+
+fn explain_heading(
+    heap: Global,
+    at: usize,
+    field: &[u8],
+    name: &str,
+) -> Result<String, AllocError> {
+    let found = quoted(heap, field)?;
+    format!(
+        heap,
+        "field {at} of the names line is {found}; expected {name}"
+    )
 }
 
 // The first name that no determinant has, or that stands for the second time.
@@ -189,7 +216,7 @@ fn explain_value(
     match (fault, decimals) {
         (Fault::Beyond, _) => format!(
             heap,
-            "field {at}, {name}, is {found}; times ten to the {decimals} it lies beyond {MOST_STORED}"
+            "field {at}, {name}, is {found}; stored with {decimals} decimals it is not from -{MOST_STORED} to {MOST_STORED}"
         ),
         (Fault::Form, 0) => format!(
             heap,
@@ -225,15 +252,15 @@ fn columns_in(bytes: &[u8]) -> Columns {
     }
 }
 
-// A field between quotes, with each byte that is no printable ASCII character as \xNN.
+// A field between quotes; a quote and a backslash after a backslash, and each byte that is no printable ASCII character as \xNN.
 fn quoted(heap: Global, field: &[u8]) -> Result<String, AllocError> {
     let mut text = String::from_str(heap, "\"")?;
     for b in field {
-        if 32 <= *b && *b < 127 {
-            text.push(*b as char)?;
-        } else {
-            let code = format!(heap, "\\x{b:02x}")?;
-            text.push_str(code.as_str())?;
+        match *b {
+            b'"' => text.push_str("\\\"")?,
+            b'\\' => text.push_str("\\\\")?,
+            32..=126 => text.push(*b as char)?,
+            _ => text.push_str(format!(heap, "\\x{b:02x}")?.as_str())?,
         }
     }
     text.push('"')?;

@@ -24,12 +24,15 @@ fn main(rt: LibcRuntime) -> Result<(), AnyError> {
 }
 
 fn run(rt: &LibcRuntime) -> Result<bool, AnyError> {
-    let words = arguments(rt)?;
-    if words.is_empty() {
-        script::run(rt)?;
-        return Ok(true);
+    let Ok(words) = arguments(rt) else {
+        Console::Single.complain(rt, "the arguments cannot be read; each must be UTF-8 text")?;
+        return Ok(false);
+    };
+    if let [first, rest @ ..] = words.as_slice() {
+        return script::command(rt, Console::Single, first.as_str(), rest);
     }
-    script::command(rt, &Console::single(), words.as_slice())
+    script::run(rt)?;
+    Ok(true)
 }
 
 fn arguments(rt: &LibcRuntime) -> Result<Vec<String>, AnyError> {

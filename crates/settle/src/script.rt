@@ -1,5 +1,6 @@
 // Commands by their words, and scripts of commands.
 use crate::ask;
+use crate::ask::Place;
 use crate::check;
 use crate::console::Console;
 use std::alloc::AllocError;
@@ -21,37 +22,38 @@ With no command, each line of standard input is one; blank lines and lines that 
 // One command; false where it was refused or found something wrong.
 pub(crate) fn command(
     rt: &LibcRuntime,
-    console: &Console,
-    words: &[String],
+    console: Console,
+    first: &str,
+    rest: &[String],
 ) -> Result<bool, AnyError> {
-    let Some(first) = words.first() else {
-        return Ok(true);
-    };
-    let rest = &words[1..];
-    match first.as_str() {
+    match first {
         "check" if !rest.is_empty() => check::run(rt, console, rest),
-        "ask" if rest.len() == 5 => ask::run(
-            rt,
-            console,
-            rest[0].as_str(),
-            rest[1].as_str(),
-            &rest[2..],
-        ),
+        "ask" => match rest {
+            [path, name, unit, day, interval] => {
+                let place = Place {
+                    name: name.as_str(),
+                    unit: unit.as_str(),
+                    day: day.as_str(),
+                    interval: interval.as_str(),
+                };
+                ask::run(rt, console, path.as_str(), &place)
+            }
+            _ => wrong(rt, console, "ask wants FILE NAME UNIT DAY INT"),
+        },
         "help" | "--help" | "-h" => {
             println!(rt, "{USAGE}")?;
             Ok(true)
         }
-        name => wrong(rt, console, name),
+        "check" => wrong(rt, console, "check wants one file or more"),
+        name => {
+            let message = format!(rt.alloc(), "there is no command {name}")?;
+            wrong(rt, console, message.as_str())
+        }
     }
 }
 
-fn wrong(rt: &LibcRuntime, console: &Console, name: &str) -> Result<bool, AnyError> {
-    let message = match name {
-        "check" => format!(rt.alloc(), "check wants one file or more")?,
-        "ask" => format!(rt.alloc(), "ask wants FILE NAME UNIT DAY INT")?,
-        _ => format!(rt.alloc(), "there is no command {name}")?,
-    };
-    console.complain(rt, message.as_str())?;
+fn wrong(rt: &LibcRuntime, console: Console, message: &str) -> Result<bool, AnyError> {
+    console.complain(rt, message)?;
     console.usage(rt, USAGE)?;
     Ok(false)
 }
@@ -62,7 +64,9 @@ pub(crate) fn run(rt: &LibcRuntime) -> Result<(), AnyError> {
     for line in BufReader::new(rt.stdin()).split(rt.alloc(), b'\n') {
         let line = line?;
         number = number.saturating_add(1);
-        run_line(rt, &Console::script(number), line.as_slice())?;
+        if !is_comment(line.as_slice()) {
+            run_line(rt, Console::Script(number), line.as_slice())?;
+        }
     }
     if number == 0 {
         println!(rt, "{USAGE}")?;
@@ -70,14 +74,24 @@ pub(crate) fn run(rt: &LibcRuntime) -> Result<(), AnyError> {
     Ok(())
 }
 
-fn run_line(rt: &LibcRuntime, console: &Console, line: &[u8]) -> Result<(), AnyError> {
+// Whether the first byte that is no blank is a #.
+fn is_comment(line: &[u8]) -> bool {
+    for b in line {
+        if !b.is_ascii_whitespace() {
+            return *b == b'#';
+        }
+    }
+    false
+}
+
+fn run_line(rt: &LibcRuntime, console: Console, line: &[u8]) -> Result<(), AnyError> {
     let Ok(text) = from_utf8(line) else {
-        console.complain(rt, "the line is no text")?;
+        console.complain(rt, "the line is not UTF-8 text")?;
         return Ok(());
     };
     let words = words_of(rt.alloc(), text)?;
-    if !passed_over(words.as_slice()) {
-        command(rt, console, words.as_slice())?;
+    if let [first, rest @ ..] = words.as_slice() {
+        command(rt, console, first.as_str(), rest)?;
     }
     Ok(())
 }
@@ -88,12 +102,4 @@ fn words_of(heap: Global, text: &str) -> Result<Vec<String>, AllocError> {
         words.push(String::from_str(heap, word)?)?;
     }
     Ok(words)
-}
-
-// Whether a line is blank or a comment.
-fn passed_over(words: &[String]) -> bool {
-    match words.first() {
-        Some(first) => first.as_str().starts_with('#'),
-        None => true,
-    }
 }
