@@ -70,7 +70,11 @@ pub fn columns_of(line: &[u8]) -> Option<Columns>
         return None;
     }
     let spaces = count_spaces(line);
-    if spaces < 3 || spaces > MOST_COLUMNS + 2 {
+    if spaces < 3 {
+        return None;
+    }
+    // With more names than determinants one stands twice, or is no determinant's.
+    if spaces > MOST_COLUMNS + 2 {
         return None;
     }
     let (heading, names) = cut_heading(line);
