@@ -178,14 +178,14 @@ impl Determinant {
         TABLE[self as usize].decimals
     }
 
-    // The least number that settlement takes for it.
+    // The smallest number that settlement takes for it.
     pub fn low(self) -> i64
         ensures { λ r. ⌜ r ≡ lowOf self ⌝ }
     {
         TABLE[self as usize].low
     }
 
-    // The greatest.
+    // The largest number that it takes.
     pub fn high(self) -> i64
         ensures { λ r. ⌜ r ≡ highOf self ⌝ }
     {
