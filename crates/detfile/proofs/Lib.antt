@@ -1,3 +1,5 @@
 pub mod NameSteps
 pub mod ValueSteps
 pub mod LineSteps
+pub mod VerdictProofs
+pub mod NamesFew

@@ -17,7 +17,6 @@ use Rattle.detfile.specs.declared.refusal.FileRefusal.{FileRefusal}
 use Rattle.detfile.specs.Keys.{then}
 use Rattle.detfile.specs.Values.{lineJudged}
 use Rattle.detfile.specs.Lines.{Line, ended, unended, linesOn, lines, written, linesJudged}
-use Rattle.detfile.specs.Files.{Rejoins}
 
 -- what the first line feed says of the lines
 abbrev pub byCut : List ℕ → Option (List ℕ × List ℕ) → List Line
@@ -64,5 +63,5 @@ rejoins-on : (front bs : List ℕ) → joined written (linesOn front bs) ≡ fro
 rejoins-on front [] = last-line front _ refl ∙ sym (append-nil front)
 rejoins-on front (b ∷ bs) = turn front b bs (eqb b 10) refl (rejoins-on [] bs) (rejoins-on (front ++ b ∷ []) bs)
 
-pub rejoins : Rejoins
+pub rejoins : (bs : List ℕ) → joined written (lines bs) ≡ bs
 rejoins bs = rejoins-on [] bs

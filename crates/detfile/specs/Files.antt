@@ -1,21 +1,19 @@
 -- The check of a whole file. Assumes nothing.
-use mathlib.Core.Path.{_≡_}
 use mathlib.Core.Bool.{cond}
-use mathlib.Core.List.{List, []}
+use mathlib.Core.List.{List}
 use Prim.Native.Nat.{ℕ}
 use lib.Dec.{leb}
 use lib.ListN.{length}
-use Rattle.std.specs.shelf.Lists.{joined}
 use Rattle.std.specs.declared.option.Option.{Option}
 use Rattle.std.specs.declared.option.Option.the-variants.{Some, None}
 use Rattle.std.specs.declared.result.Result.{Result}
-use Rattle.std.specs.declared.result.Result.the-variants.{Ok, Err}
+use Rattle.std.specs.declared.result.Result.the-variants.{Err}
 use Rattle.terms.specs.Told.{Told}
 use Rattle.terms.specs.declared.determinant.Determinant.{Determinant}
 use Rattle.figures.specs.Cuts.{cut}
 use Rattle.detfile.specs.declared.refusal.FileRefusal.{FileRefusal}
 use Rattle.detfile.specs.declared.refusal.FileRefusal.the-variants.{TooLong, Names}
-use Rattle.detfile.specs.Lines.{lines, written, linesJudged}
+use Rattle.detfile.specs.Lines.{lines, linesJudged}
 use Rattle.detfile.specs.Names.{namesOf}
 use Rattle.detfile.specs.Refusals.{told}
 
@@ -23,7 +21,7 @@ use Rattle.detfile.specs.Refusals.{told}
 abbrev pub mostBytes : ℕ
 mostBytes = 16777216
 
-abbrev columnsJudged : List ℕ → Option (List Determinant) → Result ℕ FileRefusal
+abbrev pub columnsJudged : List ℕ → Option (List Determinant) → Result ℕ FileRefusal
 columnsJudged vs None = Err Names
 columnsJudged vs (Some ks) = linesJudged ks 0 (lines vs)
 
@@ -38,7 +36,3 @@ judged bs = cond (leb (length bs) mostBytes) (partsJudged (cut 10 bs)) (Err TooL
 -- the number of value lines, or the answer number and the line at fault
 abbrev pub checked : List ℕ → Told ℕ
 checked bs = told (judged bs)
-
--- the lines of a file, each with its line feed, are the file
-abbrev pub Rejoins : Type 0
-Rejoins = (bs : List ℕ) → joined written (lines bs) ≡ bs

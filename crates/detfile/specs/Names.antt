@@ -1,7 +1,7 @@
 -- What a line of names says. Assumes nothing.
 use mathlib.Core.Bool.{Bool, false, cond, _&&_, _||_}
 use mathlib.Core.List.{List, [], _∷_, _++_}
-use Prim.Native.Nat.{ℕ, zero, suc, _-_, _+_}
+use Prim.Native.Nat.{ℕ, zero, suc, _-_}
 use lib.Chars.{codes}
 use lib.Dec.{eqb, leb}
 use lib.ListN.{length, take}
@@ -37,7 +37,6 @@ abbrev pub namesOn : ℕ → List Determinant → List ℕ → Option (List Dete
 namesOn zero ks bs = Some ks
 namesOn (suc n) ks bs = nextName ks (named (firstField bs)) (λ ls. namesOn n ls (pastField bs))
 
--- at most 255 bytes, DAY, UNIT and INT, and then one or more names of determinants; a line with 3 to 15 spaces has one to thirteen,
--- and with more than thirteen some name would stand twice
+-- at most 255 bytes, DAY, UNIT and INT, and then one or more names of determinants, none twice; a line has one field more than spaces
 abbrev pub namesOf : List ℕ → Option (List Determinant)
-namesOf bs = cond (leb (length bs) mostLine && (leb 3 (spaces bs) && leb (spaces bs) 15)) (cond (headed bs) (namesOn (spaces bs - 2) [] (valuesPart bs)) None) None
+namesOf bs = cond (leb (length bs) mostLine && leb 3 (spaces bs)) (cond (headed bs) (namesOn (spaces bs - 2) [] (valuesPart bs)) None) None

@@ -5,18 +5,24 @@ use lib.ListN.{getD}
 use Rattle.std.specs.declared.result.Result.{Result}
 use Rattle.std.specs.declared.result.Result.the-variants.{Ok, Err}
 use Rattle.terms.specs.Told.{Told, fine, refuse}
+use Rattle.figures.specs.Numbers.{numbered as fieldNumbered}
 use Rattle.figures.specs.declared.numbers.Fault.{Fault}
 use Rattle.figures.specs.declared.numbers.Fault.the-variants as fault
 use Rattle.detfile.specs.declared.refusal.FileRefusal.{FileRefusal}
 use Rattle.detfile.specs.declared.refusal.FileRefusal.the-variants.{TooLong, Names, Shape, Form, Beyond}
+
+-- a field's answer in line n
+abbrev atLine : {X : Type 0} → ℕ → Told X → Told X
+atLine n (fine x) = fine x
+atLine n (refuse a vs) = refuse a (n ∷ vs)
 
 -- the one value is the line at fault
 abbrev pub numbered : {X : Type 0} → FileRefusal → Told X
 numbered TooLong = refuse 1 (0 ∷ [])
 numbered Names = refuse 2 (1 ∷ [])
 numbered (Shape n) = refuse 3 (n ∷ [])
-numbered (Form n) = refuse 4 (n ∷ [])
-numbered (Beyond n) = refuse 5 (n ∷ [])
+numbered (Form n) = atLine n (fieldNumbered fault.Form)
+numbered (Beyond n) = atLine n (fieldNumbered fault.Beyond)
 
 -- the number of value lines, or the refusal
 abbrev pub told : Result ℕ FileRefusal → Told ℕ

@@ -43,6 +43,6 @@ abbrev pub located : ℕ → Result (Unit {0}) Fault → Result (Unit {0}) FileR
 located n (Ok x) = Ok tt
 located n (Err e) = Err (faultAt e n)
 
--- value line n of the file: its length and number of fields, then its fields
+-- line n of the file, a value line: its length and number of fields, then its fields
 abbrev pub lineJudged : List Determinant → ℕ → List ℕ → Result (Unit {0}) FileRefusal
 lineJudged ks n bs = cond (leb (length bs) mostLine && eqb (spaces bs) (length ks + 2)) (located n (fieldsFault ks bs)) (Err (Shape n))

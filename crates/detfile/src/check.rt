@@ -1,13 +1,15 @@
 // The check of a whole file.
 ghost use mathlib.Core.Path.{_≡_};
-ghost use Prim.Native.Nat.{_<_, _≤_};
+ghost use mathlib.Core.List.{List};
+ghost use Prim.Native.Nat.{ℕ, _<_, _≤_};
 ghost use lib.ListN.{length};
 ghost use Rattle.std.specs.Options.{mapped};
 ghost use Rattle.std.specs.Slices.{found};
 ghost use Rattle.figures.specs.Cuts.{cut};
 ghost use Rattle.detfile.specs.Refusals.{told};
 ghost use Rattle.detfile.specs.Lines.{lines, linesJudged};
-ghost use Rattle.detfile.specs.Files.{judged, checked, Rejoins};
+ghost use Rattle.detfile.specs.Files.{judged, checked};
+ghost use Rattle.detfile.specs.Verdicts.{Lined, Verdict};
 use crate::names::columns_of;
 use crate::refusal::FileRefusal;
 use crate::values::check_line;
@@ -43,10 +45,9 @@ fn check_lines(columns: &[Determinant], values: &[u8]) -> Result<u32, FileRefusa
     Ok(count)
 }
 
-// The number of value lines of a file, or why and at which line it is refused.
-pub fn check_file(bytes: &[u8]) -> Result<u32, FileRefusal>
-    ensures answer { λ r. ⌜ told r ≡ checked (now (bytes .entry)) ⌝ }
-    ensures value { λ r. ⌜ r ≡ judged (now (bytes .entry)) ⌝ }
+// The length, then the names line, then the value lines.
+fn judge(bytes: &[u8]) -> Result<u32, FileRefusal>
+    ensures { λ r. ⌜ r ≡ judged (now (bytes .entry)) ⌝ }
 {
     if bytes.len() > MOST_BYTES {
         return Err(FileRefusal::TooLong);
@@ -60,7 +61,18 @@ pub fn check_file(bytes: &[u8]) -> Result<u32, FileRefusal>
     }
 }
 
-// No byte of a file is outside its lines.
+// The number of value lines of a file, or why and at which line it is refused. The law says so in words: a file is accepted where its
+// names line is one and every value line is sound, and refused at the first line that is at fault.
+pub fn check_file(bytes: &[u8]) -> Result<u32, FileRefusal>
+    ensures answer { λ r. ⌜ told r ≡ checked (now (bytes .entry)) ⌝ }
+    ensures value { λ r. ⌜ r ≡ judged (now (bytes .entry)) ⌝ }
+    ensures law { λ r. ⌜ Verdict (now (bytes .entry)) r ⌝ }
+{
+    judge(bytes)
+}
+
+// A file is cut into its lines in the one way there is: no line holds a line feed, all but the last are ended by one, and together they are
+// the file.
 pub fn lines_rejoin()
-    ensures { λ _. ⌜ Rejoins ⌝ }
+    ensures { λ _. ⌜ ((bs : List ℕ) → Lined bs) ⌝ }
 {}

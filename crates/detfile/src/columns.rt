@@ -1,5 +1,6 @@
 // The columns of a file.
 ghost use mathlib.Core.Path.{_≡_};
+ghost use mathlib.Core.List.{[]};
 ghost use Prim.Native.Nat.{_≤_};
 ghost use lib.ListN.{length, take};
 use terms::determinant::Determinant;
@@ -25,7 +26,7 @@ impl Columns {
 
     // No columns.
     pub fn none() -> Columns
-        ensures { λ r. ⌜ r .count ≡ 0 ⌝ }
+        ensures { λ r. ⌜ take (r .count) (r .determinants) ≡ [] ⌝ }
     {
         Columns::first([Determinant::Owner; MOST_COLUMNS], 0)
     }

@@ -9,8 +9,8 @@ use crate::columns::Columns;
 use crate::columns::MOST_COLUMNS;
 use figures::cutting::count_spaces;
 use figures::cutting::cut_field;
+use terms::bytes::same_bytes;
 use terms::determinant::Determinant;
-use terms::determinant::same_bytes;
 
 // The most bytes that a line may have before its line feed.
 pub const MOST_LINE: usize = 255;
@@ -70,7 +70,11 @@ pub fn columns_of(line: &[u8]) -> Option<Columns>
         return None;
     }
     let spaces = count_spaces(line);
-    if spaces < 3 || spaces > MOST_COLUMNS + 2 {
+    if spaces < 3 {
+        return None;
+    }
+    // With more names than determinants one stands twice, or is no determinant's.
+    if spaces > MOST_COLUMNS + 2 {
         return None;
     }
     let (heading, names) = cut_heading(line);

@@ -10,7 +10,7 @@ pub enum FileRefusal {
     TooLong,
     // There is no names line, or it is not one.
     Names,
-    // A value line is too long, has no line feed, or has another number of fields than the names line.
+    // A value line is too long or not ended, or its number of fields is not that of the names line.
     Shape(u32),
     // A field is not written as its place asks, or DAY, UNIT or INT is out of range.
     Form(u32),

@@ -1,2 +1,3 @@
 pub mod CutSteps
 pub mod NumberSteps
+pub mod Exactness

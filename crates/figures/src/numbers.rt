@@ -3,7 +3,8 @@ ghost use mathlib.Core.Path.{_≡_};
 ghost use Prim.Native.Nat.{_*_, _^_, _<_, _≤_};
 ghost use lib.ListN.{length};
 ghost use Rattle.std.specs.Slices.{found};
-ghost use Rattle.figures.specs.Numbers.{faultNumber, valueOn, counted, magnitude, bounded, stored};
+ghost use Rattle.figures.specs.Numbers.{numberOf, told, valueOn, counted, magnitude, bounded, storedBy, stored, storing, Stores};
+ghost use Rattle.terms.specs.Determinants.{decimalsOf};
 use crate::cutting::cut_at;
 use crate::marks::Mark;
 use crate::marks::mark_of;
@@ -22,7 +23,7 @@ pub enum Fault {
 impl Fault {
     // The number of the answer.
     pub fn number(self) -> u32
-        ensures { λ r. ⌜ r ≡ faultNumber self ⌝ }
+        ensures { λ r. ⌜ r ≡ numberOf self ⌝ }
     {
         match self {
             Fault::Form => 4,
@@ -121,13 +122,22 @@ fn limited(size: Option<u64>, minus: bool) -> Result<i64, Fault>
     }
 }
 
-// The stored number of a determinant's figure.
-pub fn stored_number(field: &[u8], determinant: Determinant) -> Result<i64, Fault>
-    ensures { λ r. ⌜ r ≡ stored determinant (now (field .entry)) ⌝ }
+// A figure with an optional minus, times ten to the number of `decimals`.
+fn signed_number(field: &[u8], decimals: usize) -> Result<i64, Fault>
+    requires { ⌜ decimals ≤ 6 ⌝ }
+    ensures { λ r. ⌜ r ≡ storedBy decimals (now (field .entry)) ⌝ }
 {
-    let decimals = determinant.decimals();
     match field {
         [b'-', rest @ ..] => limited(scaled(rest, decimals), true),
-        rest => limited(scaled(rest, decimals), false),
+        unsigned => limited(scaled(unsigned, decimals), false),
     }
+}
+
+// The stored number of a determinant's figure: the figure times ten to the decimals, exactly.
+pub fn stored_number(field: &[u8], determinant: Determinant) -> Result<i64, Fault>
+    ensures answer { λ r. ⌜ told r ≡ storing determinant (now (field .entry)) ⌝ }
+    ensures value { λ r. ⌜ r ≡ stored determinant (now (field .entry)) ⌝ }
+    ensures law { λ r. ⌜ Stores (decimalsOf determinant) (now (field .entry)) r ⌝ }
+{
+    signed_number(field, determinant.decimals())
 }

@@ -16,7 +16,6 @@ ghost use Rattle.filesource.specs.AsksKept.{asked-laws};
 use crate::source::FileSource;
 use detfile::check::check_file;
 use detfile::check::cut_line;
-use detfile::columns::Columns;
 use detfile::key::cut_key;
 use detfile::names::columns_of;
 use detfile::refusal::FileRefusal;

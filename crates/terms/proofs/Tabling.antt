@@ -1,11 +1,12 @@
 -- The rule of the table, which antt computes at each row, and what it tells of numbers.
 use mathlib.Core.Path.{_≡_, sym, ap, _∙_}
-use mathlib.Core.List.{List, [], _∷_, map}
-use Prim.Native.Nat.{ℕ}
+use mathlib.Core.List.{List, [], _∷_, _++_, map}
+use Prim.Native.Nat.{ℕ, _-_}
+use lib.ListN.{take, drop}
 use borrow.Author.Needs.{needs}
 use Rattle.std.specs.declared.option.Option.the-variants.{Some}
 use Rattle.terms.specs.declared.determinant.Determinant.{Determinant}
-use Rattle.terms.specs.Determinants.{numberOf, withNumber, Tabled}
+use Rattle.terms.specs.Determinants.{all, numberOf, withNumber, Tabled}
 
 pub tabled : (k : Determinant) → Tabled k
 tabled k = search needs
@@ -24,3 +25,7 @@ same-numbers (j ∷ js) (k ∷ ks) e =
     let x = same-number j k h in
     let y = same-numbers js ks t in
     cc
+
+-- every determinant stands in the list of all
+pub among-all : (k : Determinant) → all ≡ take (numberOf k - 1) all ++ k ∷ drop (numberOf k) all
+among-all k = search needs

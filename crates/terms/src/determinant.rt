@@ -1,8 +1,8 @@
 // The determinants: one row for each in one table.
 ghost use mathlib.Core.Path.{_≡_};
 ghost use Prim.Native.Nat.{_≤_};
-ghost use Rattle.std.specs.shelf.Text.{sameBytes};
 ghost use Rattle.terms.specs.Determinants.{numberOf, nameOf, decimalsOf, lowOf, highOf, missingOf, withNumber, named};
+use crate::bytes::same_bytes;
 
 #[derive(Clone, Copy, Debug, PartialEq, Eq)]
 pub enum Determinant {
@@ -178,14 +178,14 @@ impl Determinant {
         TABLE[self as usize].decimals
     }
 
-    // The least number that settlement takes for it.
+    // The smallest number that settlement takes for it.
     pub fn low(self) -> i64
         ensures { λ r. ⌜ r ≡ lowOf self ⌝ }
     {
         TABLE[self as usize].low
     }
 
-    // The greatest.
+    // The largest number that it takes.
     pub fn high(self) -> i64
         ensures { λ r. ⌜ r ≡ highOf self ⌝ }
     {
@@ -222,11 +222,4 @@ impl Determinant {
         }
         None
     }
-}
-
-// Whether two texts are the same bytes.
-pub fn same_bytes(a: &[u8], b: &[u8]) -> bool
-    ensures { λ r. ⌜ r ≡ sameBytes (now (a .entry)) (now (b .entry)) ⌝ }
-{
-    a == b
 }

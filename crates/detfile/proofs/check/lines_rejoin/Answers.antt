@@ -1,5 +1,5 @@
-use Rattle.detfile.proofs.LineSteps.{rejoins}
+use Rattle.detfile.proofs.VerdictProofs.{lined}
 use Rattle.detfile.proofs.check.lines_rejoin.Needs as need
 
 pub returns : need.returns
-returns c = rejoins
+returns c = lined

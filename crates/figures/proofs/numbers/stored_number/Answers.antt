@@ -1,14 +1,15 @@
-use mathlib.Core.Path.{sym, ap, _∙_}
-use mathlib.Core.Bool.{true}
-use native.Mathlib.Omega.{arith}
-use lib.ListN.{getD, drop}
-use Rattle.std.proofs.shelf.Lists.{take-rest}
-use Rattle.std.proofs.shelf.Tests.{cond-true, eq-eqb}
-use Rattle.figures.specs.Numbers.{magnitude, bounded}
+use mathlib.Core.Path.{sym, ap, subst, _∙_}
+use lib.IntN.{ℤ}
+use Rattle.std.specs.declared.result.Result.{Result}
+use Rattle.terms.specs.Determinants.{decimalsOf}
+use Rattle.figures.specs.declared.numbers.Fault.{Fault}
+use Rattle.figures.specs.Numbers.{told, storedBy, Stores}
+use Rattle.figures.proofs.Exactness.{stores}
 use Rattle.figures.proofs.numbers.stored_number.Needs as need
 
-pub returns-in-45 : need.returns-in-45
-returns-in-45 c =
-    c .limited .ensures
-    ∙ ap (bounded true) (c .scaled .ensures ∙ ap (magnitude (c .decimals-decimals .result)) (take-rest (c .args .field .now) 1) ∙ ap (λ d. magnitude d (drop 1 (c .args .field .now))) (c .decimals-decimals .ensures .value))
-    ∙ sym (cond-true _ _ _ (eq-eqb (getD (c .args .field .now) 0 0) 45 (omega arith)))
+pub returns : need.returns
+returns c =
+    let bs = c .args .field .now in
+    let d = decimalsOf (c .args .determinant) in
+    let v = c .signed-number .ensures ∙ ap (λ n. storedBy n bs) (c .decimals .ensures .value) in
+    record { answer = ap told v; value = v; law = subst (λ (r : Result ℤ Fault). Stores d bs r) (sym v) (stores d bs) }
