@@ -1,12 +1,11 @@
 -- The check's verdict is as the law says.
 use mathlib.Core.Path.{_≡_, refl, sym, ap, subst, _∙_}
-use mathlib.Core.Logic.{_⊎_, inl, inr}
-use mathlib.Core.Bool.{Bool, true, false, cond, _&&_}
+use mathlib.Core.Logic.{inl, inr}
+use mathlib.Core.Bool.{true, false, _&&_}
 use mathlib.Core.List.{List, [], _∷_, _++_}
-use Prim.Native.Nat.{ℕ, suc, _+_, _≤_, _<_}
+use Prim.Native.Nat.{ℕ, suc, _+_, _≤_}
 use native.Mathlib.Omega.{arith}
 use lib.Dec.{eqb, leb}
-use lib.IntN.{ℤ}
 use lib.ListN.{length}
 use Rattle.std.proofs.shelf.Tests.{and-parts, and-from, leb-true, leb-false, le-leb, eqb-true, eqb-false, eq-eqb, cond-both, true≢false}
 use Rattle.std.specs.declared.option.Option.{Option}
@@ -17,15 +16,13 @@ use Rattle.terms.specs.Decisions.{Each, Among}
 use Rattle.terms.specs.declared.determinant.Determinant.{Determinant}
 use Rattle.figures.specs.Cuts.{cut, firstField, pastField, spaces}
 use Rattle.figures.specs.declared.numbers.Fault.{Fault}
-use Rattle.detfile.specs.declared.key.Key.{Key}
 use Rattle.detfile.specs.declared.refusal.FileRefusal.{FileRefusal}
-use Rattle.detfile.specs.declared.refusal.FileRefusal.the-variants.{TooLong, Names, Shape}
+use Rattle.detfile.specs.declared.refusal.FileRefusal.the-variants.{TooLong, Shape}
 use Rattle.detfile.specs.Keys.{then, keyOf, valuesPart}
 use Rattle.detfile.specs.Names.{mostLine, namesOf}
 use Rattle.detfile.specs.Values.{given, valuesFault, fieldsFault, located, lineJudged}
 use Rattle.detfile.specs.Lines.{Line, ended, unended, linesOn, lines, linesJudged}
 use Rattle.detfile.specs.Files.{mostBytes, partsJudged, columnsJudged, judged}
-use Rattle.detfile.specs.Refusals.{faultAt}
 use Rattle.detfile.specs.Verdicts.{Unbroken, Endings, Lined, Given, Shaped, Sound, SoundLine, FaultyLine, LinesVerdict, Verdict, tooLong, unnamed, misnamed, valued}
 use Rattle.detfile.proofs.LineSteps.{rejoins}
 

@@ -1,5 +1,5 @@
 -- The answers of a file's check: each case's number and values. Assumes nothing.
-use mathlib.Core.List.{List, [], _∷_}
+use mathlib.Core.List.{[], _∷_}
 use Prim.Native.Nat.{ℕ}
 use lib.ListN.{getD}
 use Rattle.std.specs.declared.result.Result.{Result}

@@ -9,7 +9,7 @@ use lib.Dec.{leb, eqb}
 use lib.IntN.{pos, negℤ}
 use lib.ListN.{length, getD, drop}
 use lib.Pow.{pow-add}
-use Rattle.std.proofs.shelf.Tests.{and-parts, and-from, leb-true, le-leb, cond-true, cond-false, cond-both, eqb-true, leb-false, true≢false}
+use Rattle.std.proofs.shelf.Tests.{and-parts, and-from, leb-true, le-leb, cond-true, cond-both, eqb-true, leb-false, true≢false}
 use Rattle.std.specs.declared.option.Option.{Option}
 use Rattle.std.specs.declared.option.Option.the-variants.{Some, None}
 use Rattle.std.specs.declared.result.Result.the-variants.{Ok, Err}

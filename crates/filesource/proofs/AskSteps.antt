@@ -21,7 +21,7 @@ use Rattle.figures.specs.Tokens.{Seen, tokenOf}
 use Rattle.figures.specs.declared.numbers.Fault.{Fault}
 use Rattle.detfile.specs.Keys.{keyOf, valuesPart, coversOf}
 use Rattle.detfile.specs.Lines.{lines, ended, unended}
-use Rattle.detfile.specs.Values.{given, givenBy}
+use Rattle.detfile.specs.Values.{givenBy}
 use Rattle.detfile.specs.declared.key.Key.{Key}
 use Rattle.detfile.proofs.LineSteps.{byCut, lines-cut, line-more}
 use Rattle.filesource.specs.Asks.{valueSays, columnSays, keySays, lineSays}

@@ -1,9 +1,8 @@
 -- A file keeps the laws of a source. Assumes nothing.
-use mathlib.Core.Path.{_≡_, refl, sym, ap, _∙_}
+use mathlib.Core.Path.{_≡_, refl}
 use mathlib.Core.Bool.{Bool, true, false, cond, _&&_}
 use mathlib.Core.List.{List, [], _∷_}
 use Prim.Native.Nat.{ℕ, zero, suc, _≤_}
-use native.Mathlib.Omega.{arith}
 use lib.Dec.{leb, eqb}
 use lib.IntN.{ℤ, pos, negℤ, natAbs}
 use lib.ListN.{getD, drop}
@@ -17,8 +16,7 @@ use Rattle.terms.specs.Answers.{Sized}
 use Rattle.terms.specs.DecisionsKept.{decide-none, decide-sized}
 use Rattle.terms.specs.Determinants.{numberOf, decimalsOf}
 use Rattle.terms.specs.Sources.{SourceLaws}
-use Rattle.terms.specs.declared.answer.Answer.{Answer}
-use Rattle.terms.specs.declared.answer.Answer.the-variants.{NoCut, Null, Figure}
+use Rattle.terms.specs.declared.answer.Answer.the-variants.{NoCut}
 use Rattle.terms.specs.declared.determinant.Determinant.{Determinant}
 use Rattle.figures.specs.Cuts.{firstField, pastField}
 use Rattle.figures.specs.Numbers.{magnitude, bounded, stored}

@@ -10,7 +10,6 @@ use Rattle.terms.specs.Limits.{lastDeterminant, lastUnit, lastDay, lastInterval
 use Rattle.terms.specs.Answers.{Sized}
 use Rattle.terms.specs.DecisionsKept.{decide-none, decide-sized}
 use Rattle.terms.specs.Sources.{SourceLaws}
-use Rattle.terms.specs.declared.answer.Answer.{Answer}
 use Rattle.terms.specs.declared.answer.Answer.the-variants.{NoCut, Null, Figure}
 use Rattle.sources.specs.declared.records.Record.{Record}
 use Rattle.sources.specs.Records.{soundRecord, about, covers, recordSays, recorded}

@@ -1,8 +1,6 @@
 -- What the laws of a source ask of a list that decides. Assumes nothing.
 use mathlib.Core.Path.{_≡_, refl}
 use mathlib.Core.List.{List, [], _∷_}
-use Prim.Native.Nat.{ℕ}
-use native.Mathlib.Omega.{arith}
 use Rattle.terms.specs.declared.answer.Answer.{Answer}
 use Rattle.terms.specs.declared.answer.Answer.the-variants.{NoCut, Null, Figure}
 use Rattle.terms.specs.Answers.{later, Sized}

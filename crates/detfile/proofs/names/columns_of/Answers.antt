@@ -1,8 +1,5 @@
-use mathlib.Core.Path.{sym, ap}
-use Prim.Native.Nat.{_-_}
+use mathlib.Core.Path.{sym}
 use native.Mathlib.Omega.{arith}
-use Rattle.figures.specs.Cuts.{spaces}
-use Rattle.detfile.specs.Keys.{valuesPart}
 use Rattle.detfile.proofs.NamesFew.{many-none}
 use Rattle.detfile.proofs.names.columns_of.Needs as need
 

@@ -1,6 +1,6 @@
 use mathlib.Core.Path.{_≡_}
-use Prim.Native.Nat.{_<_, _≤_, _^_}
-use lib.ListN.{drop, length}
+use Prim.Native.Nat.{_<_, _^_}
+use lib.ListN.{drop}
 use Rattle.figures.specs.Numbers.{valueOn}
 use Rattle.figures.proofs.numbers.digits.Given as given
 

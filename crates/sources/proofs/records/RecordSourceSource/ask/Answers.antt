@@ -1,6 +1,6 @@
 use mathlib.Core.Path.{_≡_, sym, ap, _∙_}
 use mathlib.Core.Bool.{true}
-use Prim.Native.Nat.{ℕ, _+_}
+use Prim.Native.Nat.{_+_}
 use native.Mathlib.Omega.{arith}
 use lib.ListN.{drop}
 use Rattle.std.proofs.shelf.Tests.{cond-true, cond-false, true≢false}
@@ -8,7 +8,7 @@ use Rattle.terms.specs.Answers.{later}
 use Rattle.terms.specs.Decisions.{decide}
 use Rattle.terms.proofs.Decides.{decision, decide-more, decide-all}
 use Rattle.terms.specs.declared.answer.Answer.the-variants.{NoCut}
-use Rattle.sources.specs.Records.{recordSays, recorded}
+use Rattle.sources.specs.Records.{recordSays}
 use Rattle.sources.proofs.records.RecordSourceSource.ask.Needs as need
 
 pub loop-record-again : need.loop-record-again
