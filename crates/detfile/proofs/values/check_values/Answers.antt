@@ -4,17 +4,17 @@ use Rattle.detfile.specs.Values.{given_by, values_fault}
 use Rattle.detfile.proofs.ValueSteps.{values_more, values_stop, values_all}
 use Rattle.detfile.proofs.values.check_values.Goals as goal
 
-pub returns-in-err-given-value : goal.returns-in-err-given-value
-returns-in-err-given-value c =
+pub returns-in_err-given_value : goal.returns-in_err-given_value
+returns-in_err-given_value c =
     let p = err_from_is_err_and c.from-residual.result c.from-residual.ensures.1 in
     p.1 ∙ ap Err p.2
-    ∙ sym (values_stop c.args.columns.now c.loop-d.d-index c.loop-d.rest.now _ c.in-err-given-value.field-0.0 c.loop-d-test.true (c.in-err-given-value.ensures ∙ ap (given_by _) c.cut-token.ensures.token))
+    ∙ sym (values_stop c.args.columns.now c.loop-d.d-index c.loop-d.rest.now _ c.in_err-given_value.field-0.0 c.loop-d-test.true (c.in_err-given_value.ensures ∙ ap (given_by _) c.cut_token.ensures.token))
     ∙ c.loop-d.invariant
 
 pub loop-d-preserved : goal.loop-d-preserved
 loop-d-preserved c =
-    ap (values_fault (drop (c.loop-d.d-index + 1) c.args.columns.now)) c.cut-token.ensures.left
-    ∙ sym (values_more c.args.columns.now c.loop-d.d-index c.loop-d.rest.now _ c.in-ok-given-value.field-0 c.loop-d-test.true (c.in-ok-given-value.ensures ∙ ap (given_by _) c.cut-token.ensures.token))
+    ap (values_fault (drop (c.loop-d.d-index + 1) c.args.columns.now)) c.cut_token.ensures.left
+    ∙ sym (values_more c.args.columns.now c.loop-d.d-index c.loop-d.rest.now _ c.in_ok-given_value.field-0 c.loop-d-test.true (c.in_ok-given_value.ensures ∙ ap (given_by _) c.cut_token.ensures.token))
     ∙ c.loop-d.invariant
 
 pub returns : goal.returns

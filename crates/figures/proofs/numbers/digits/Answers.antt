@@ -3,9 +3,9 @@ use Rattle.figures.specs.Marks.{digit_of}
 use Rattle.figures.proofs.NumberSteps.{ten_more, value_more, value_stop, value_all, no_digit}
 use Rattle.figures.proofs.numbers.digits.Goals as goal
 
-pub returns-in-default : goal.returns-in-default
-returns-in-default c = record {
-  value = sym (value_stop c.loop-b.n c.args.field.now c.loop-b.b-index c.loop-b-test.true (ap digit_of (sym c.mark-of.ensures.value) ∙ no_digit c.mark-of.result c.in-default.not-Digit)) ∙ c.loop-b.invariant.0;
+pub returns-in_default : goal.returns-in_default
+returns-in_default c = record {
+  value = sym (value_stop c.loop-b.n c.args.field.now c.loop-b.b-index c.loop-b-test.true (ap digit_of (sym c.mark_of.ensures.value) ∙ no_digit c.mark_of.result c.in_default.not-Digit)) ∙ c.loop-b.invariant.0;
   bound = tt;
 }
 

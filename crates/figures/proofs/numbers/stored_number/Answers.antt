@@ -9,5 +9,5 @@ pub returns : goal.returns
 returns c =
     let bs = c.args.field.now in
     let d = decimals_of c.args.determinant in
-    let v = c.signed-number.ensures ∙ ap (λ n. stored_by n bs) c.decimals.ensures.value in
+    let v = c.signed_number.ensures ∙ ap (λ n. stored_by n bs) c.decimals.ensures.value in
     record { answer = ap told v; value = v; law = subst (λ (r : Result ℤ Fault). Stores d bs r) (sym v) (stores d bs) }

@@ -16,13 +16,13 @@ loop-k-preserved g c =
     let ws = c.loop-k.warnings in
     let n = c.loop-k.noted in
     let k = c.loop-k.k in
-    let d = c.asked-at.result in
+    let d = c.asked_at.result in
     let inv = c.loop-k.invariant in
     let said = c.in-Ok.ensures in
     let lt = c.loop-k-test.true in
     let few = few_rows slot.day slot.interval c.args.unit d (judged_at t slot.day slot.interval d c.args.unit) in
-    let held = held_here t slot.day slot.interval c.args.unit ws n k lt d c.asked-at.ensures c.in-Ok.figure said.value in (
-      goes_on t slot.day slot.interval c.args.unit ws n k lt d c.asked-at.ensures c.ask-noting.new.warnings c.ask-noting.new.noted c.in-Ok.figure said.value said.count said.rows ∙ inv.0,
+    let held = held_here t slot.day slot.interval c.args.unit ws n k lt d c.asked_at.ensures c.in-Ok.figure said.value in (
+      goes_on t slot.day slot.interval c.args.unit ws n k lt d c.asked_at.ensures c.ask_noting.new.warnings c.ask_noting.new.noted c.in-Ok.figure said.value said.count said.rows ∙ inv.0,
       kept_more t slot.day slot.interval c.args.unit ws n k lt c.loop-k.taken c.in-Ok.figure inv.3 held inv.1,
       omega (arith, said.count, few),
       length-set c.loop-k.taken k c.in-Ok.figure ∙ inv.3,
@@ -35,15 +35,15 @@ returns-in-Err g c =
     let ws = c.loop-k.warnings in
     let n = c.loop-k.noted in
     let k = c.loop-k.k in
-    let d = c.asked-at.result in
+    let d = c.asked_at.result in
     let inv = c.loop-k.invariant in
     let said = c.in-Err.ensures in
     let lt = c.loop-k-test.true in
     let few = few_rows slot.day slot.interval c.args.unit d (judged_at t slot.day slot.interval d c.args.unit) in
     rw c.ended.ensures (record {
-      course = ends t slot.day slot.interval c.args.unit ws n k lt d c.asked-at.ensures c.ask-noting.new.warnings c.ask-noting.new.noted said.count said.rows c.in-Err.out said.value ∙ inv.0;
+      course = ends t slot.day slot.interval c.args.unit ws n k lt d c.asked_at.ensures c.ask_noting.new.warnings c.ask_noting.new.noted said.count said.rows c.in-Err.out said.value ∙ inv.0;
       few = omega (arith, said.count, few);
-      reads = reads_at t slot.day slot.interval c.args.unit ws n k lt d c.asked-at.ensures c.loop-k.taken c.in-Err.out inv.1 said.value;
+      reads = reads_at t slot.day slot.interval c.args.unit ws n k lt d c.asked_at.ensures c.loop-k.taken c.in-Err.out inv.1 said.value;
     })
 
 pub returns : goal.returns

@@ -11,22 +11,22 @@ loop-entity-init g c = shares_none _ _ _ _ refl
 pub loop-entity-preserved : goal.loop-entity-preserved
 loop-entity-preserved g c =
     let t : Table = g.S.Source.table c.args.source.now in
-    let said = c.in-ok-share.ensures in
-    shares_more t c.args.slot.day c.args.slot.interval c.loop-entity.entity c.loop-entity.shares c.loop-entity.sum c.in-ok-share.share c.loop-entity-test.true c.loop-entity.invariant said.0 said.1.0 said.1.1
+    let said = c.in_ok-share.ensures in
+    shares_more t c.args.slot.day c.args.slot.interval c.loop-entity.entity c.loop-entity.shares c.loop-entity.sum c.in_ok-share.share c.loop-entity-test.true c.loop-entity.invariant said.0 said.1.0 said.1.1
 
-pub returns-in-err-share : goal.returns-in-err-share
-returns-in-err-share g c =
+pub returns-in_err-share : goal.returns-in_err-share
+returns-in_err-share g c =
     let t : Table = g.S.Source.table c.args.source.now in
     let p = err_from_is_err_and c.from-residual.result c.from-residual.ensures.1 in
-    let stop = share_stops t c.args.slot.day c.args.slot.interval c.loop-entity.entity 64 c.in-err-share.field-0.0 c.loop-entity-test.true c.loop-entity.invariant.course c.in-err-share.ensures in
+    let stop = share_stops t c.args.slot.day c.args.slot.interval c.loop-entity.entity 64 c.in_err-share.field-0.0 c.loop-entity-test.true c.loop-entity.invariant.course c.in_err-share.ensures in
     rw (p.1, p.2) (ap (λ a. next a (summed t c.args.slot.day c.args.slot.interval)) stop)
 
-pub returns-then-sum-ne-WHOLE-LOAD : goal.returns-then-sum-ne-WHOLE-LOAD
-returns-then-sum-ne-WHOLE-LOAD g c =
+pub returns-then-sum-ne-WHOLE_LOAD : goal.returns-then-sum-ne-WHOLE_LOAD
+returns-then-sum-ne-WHOLE_LOAD g c =
     let t : Table = g.S.Source.table c.args.source.now in
-    shares_off t c.args.slot.day c.args.slot.interval c.loop-entity.entity c.loop-entity.shares c.loop-entity.sum (omega arith) c.if-sum-ne-WHOLE-LOAD.true c.loop-entity.invariant
+    shares_off t c.args.slot.day c.args.slot.interval c.loop-entity.entity c.loop-entity.shares c.loop-entity.sum (omega arith) c.if-sum-ne-WHOLE_LOAD.true c.loop-entity.invariant
 
 pub returns : goal.returns
 returns g c =
     let t : Table = g.S.Source.table c.args.source.now in
-    shares_all t c.args.slot.day c.args.slot.interval c.loop-entity.entity c.loop-entity.shares c.loop-entity.sum (omega arith) c.if-sum-ne-WHOLE-LOAD.false c.loop-entity.invariant
+    shares_all t c.args.slot.day c.args.slot.interval c.loop-entity.entity c.loop-entity.shares c.loop-entity.sum (omega arith) c.if-sum-ne-WHOLE_LOAD.false c.loop-entity.invariant

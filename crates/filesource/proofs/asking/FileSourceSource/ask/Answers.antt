@@ -14,12 +14,12 @@ returns c =
     let q = c.args.question in
     let s = c.args.self.now in
     let bs = s.bytes.now in
-    let ks = c.as-slice.ensures.value ∙ same_numbers _ (columns bs) s.headed in
-    let e : c.ask-lines.result ≡ decide (line_says (columns bs) q.determinant q.unit q.day q.interval) NoCut (value_lines bs) =
-    c.ask-lines.ensures
+    let ks = c.as_slice.ensures.value ∙ same_numbers _ (columns bs) s.headed in
+    let e : c.ask_lines.result ≡ decide (line_says (columns bs) q.determinant q.unit q.day q.interval) NoCut (value_lines bs) =
+    c.ask_lines.ensures
     ∙ ap (λ l. decide (line_says l q.determinant q.unit q.day q.interval) NoCut (lines s.values.now)) ks
     ∙ ap (λ v. decide (line_says (columns bs) q.determinant q.unit q.day q.interval) NoCut (lines v)) s.valued in
     record {
-      table = e ∙ sym (cond-true _ _ _ (sym c.if-not-is-inside.ensures));
-      law = λ _. decision (line_says (columns bs) q.determinant q.unit q.day q.interval) (value_lines bs) c.ask-lines.result e;
+      table = e ∙ sym (cond-true _ _ _ (sym c.if-not-is_inside.ensures));
+      law = λ _. decision (line_says (columns bs) q.determinant q.unit q.day q.interval) (value_lines bs) c.ask_lines.result e;
     }

@@ -17,19 +17,19 @@ enter-requires g c =
     let s = c.in-Ok.settled in
     let lawful = g.met.R.Rounding.near self.rule in
     let by = c.in-Ok.ensures.settled in
-    let due : is_due w c.args.interval ≡ true = sym c.is-due.ensures ∙ c.if-not-is-due.false in
+    let due : is_due w c.args.interval ≡ true = sym c.is_due.ensures ∙ c.if-not-is_due.false in
     let d = due_parts w c.args.interval due in
     let charges = self.charges in
     record {
       due = d.0;
       charged = omega (arith, d.0, charges);
       few = charged_few rd t w.day c.args.interval lawful s.rows s.paid s.charges s.charged by;
-      totals-small = λ q lt. within_hundred w.intervals _ self.few (self.reactive q lt) (self.held q lt) (self.load q lt);
-      rows-small = λ q lt. one_hundred _ (rows_within rd t w.day c.args.interval lawful s.rows s.paid s.charges s.charged by q lt);
+      totals_small = λ q lt. within_hundred w.intervals _ self.few (self.reactive q lt) (self.held q lt) (self.load q lt);
+      rows_small = λ q lt. one_hundred _ (rows_within rd t w.day c.args.interval lawful s.rows s.paid s.charges s.charged by q lt);
     }
 
-pub invariant-of-self : goal.invariant-of-self
-invariant-of-self g c =
+pub invariant_of-self : goal.invariant_of-self
+invariant_of-self g c =
     let rd : ℤ → ℕ → ℤ = g.R.Rounding.rounded c.args.self.now.rule in
     let t : Table = g.S.Source.table c.args.source.now in
     let self = c.args.self.now in
@@ -38,7 +38,7 @@ invariant-of-self g c =
     let s = c.in-Ok.settled in
     let lawful = g.met.R.Rounding.near self.rule in
     let by = c.in-Ok.ensures.settled in
-    let due : is_due w c.args.interval ≡ true = sym c.is-due.ensures ∙ c.if-not-is-due.false in
+    let due : is_due w c.args.interval ≡ true = sym c.is_due.ensures ∙ c.if-not-is_due.false in
     let d = due_parts w c.args.interval due in
     let after = c.enter.ensures in
     let small = rows_within rd t w.day c.args.interval lawful s.rows s.paid s.charges s.charged by in
@@ -76,15 +76,15 @@ returns-in-Ok g c =
     let i = c.args.interval in
     let ws = c.args.warnings.now in
     let said = c.in-Ok.ensures in
-    let due : is_due w i ≡ true = sym c.is-due.ensures ∙ c.if-not-is-due.false in
-    let room = c.if-warnings-lt-WARNING-ROWS.false in
+    let due : is_due w i ≡ true = sym c.is_due.ensures ∙ c.if-not-is_due.false in
+    let room = c.if-warnings-lt-WARNING_ROWS.false in
     let on = c.if-self.false in
     let d = due_parts w i due in
     let none = no_fault w.day i _ said.stop in
     let after = c.enter.ensures in
     let grown = grows rd t w v i s.rows s.paid s.charges s.charged d.1 said.settled after.day after.intervals after.charged after.totals in
     record {
-      answer = ap fine (c.worked-of.ensures ∙ worked_is rd t w.day i s said.settled said.counted) ∙ answering_is t self.stopped w i ws on due room rd none;
+      answer = ap fine (c.worked_of.ensures ∙ worked_is rd t w.day i s said.settled said.counted) ∙ answering_is t self.stopped w i ws on due room rd none;
       warnings = said.warnings ∙ warned_is t self.stopped w i ws on due room said.few;
       rule = refl;
       stopped = stopping_is t self.stopped w i ws on due room none;
@@ -100,8 +100,8 @@ returns-in-Err g c =
     let i = c.args.interval in
     let ws = c.args.warnings.now in
     let said = c.in-Err.ensures in
-    let due : is_due w i ≡ true = sym c.is-due.ensures ∙ c.if-not-is-due.false in
-    let room = c.if-warnings-lt-WARNING-ROWS.false in
+    let due : is_due w i ≡ true = sym c.is_due.ensures ∙ c.if-not-is_due.false in
+    let room = c.if-warnings-lt-WARNING_ROWS.false in
     record {
       answer = search rules;
       warnings = said.warnings ∙ warned_is t self.stopped w i ws c.if-self.false due room said.few;

@@ -2,8 +2,8 @@ use Rattle.std.proofs.Common.{◌≡◌, sym, refl, ap, arith}
 use Rattle.runs.proofs.Growing.{worked_none, none_small, balanced_none}
 use Rattle.runs.proofs.run.Run.open.Goals as goal
 
-pub invariant-of-result : goal.invariant-of-result
-invariant-of-result g c =
+pub invariant_of-result : goal.invariant_of-result
+invariant_of-result g c =
     let d = c.start-work.ensures.day in
     let inside = c.args.day.inside in
     let w = c.start-work.ensures.intervals in

@@ -24,11 +24,11 @@ returns c =
     let rs = c.args.self.now.records.now in
     let e : c.loop-record.answer ≡ decide says NoCut rs = sym (decide_all says rs c.loop-record.record-index c.loop-record.answer c.loop-record-test.false) ∙ c.loop-record.invariant.1 in
     record {
-      table = e ∙ sym (cond-true _ _ _ (sym c.if-not-is-inside.ensures));
+      table = e ∙ sym (cond-true _ _ _ (sym c.if-not-is_inside.ensures));
       law = λ _. decision says rs c.loop-record.answer e;
     }
 
-pub returns-then-not-is-inside : goal.returns-then-not-is-inside
-returns-then-not-is-inside c =
-    let no = c.if-not-is-inside.ensures in
+pub returns-then-not-is_inside : goal.returns-then-not-is_inside
+returns-then-not-is_inside c =
+    let no = c.if-not-is_inside.ensures in
     record { table = sym (cond-false _ _ _ (sym no)); law = λ yes. absurd (true≢false (sym yes ∙ sym no)) }
