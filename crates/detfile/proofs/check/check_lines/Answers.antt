@@ -11,7 +11,7 @@ returns-in_default c =
 
 pub returns-in_err-check_line : goal.returns-in_err-check_line
 returns-in_err-check_line c =
-    let p = err_from_is_err_and c.from-residual.result c.from-residual.ensures.1 in
+    let p = err_from_is_err_and c.from_residual.result c.from_residual.ensures.1 in
     p.1 ∙ ap Err p.2
     ∙ sym (judge_stop c.args.columns.now c.loop-rest.count c.loop-rest.rest.now _ c.in_err-check_line.field-0.0 c.in-Some.ensures.parts c.in_err-check_line.ensures) ∙ c.loop-rest.invariant.0
 

@@ -6,7 +6,7 @@ use Rattle.detfile.proofs.values.check_values.Goals as goal
 
 pub returns-in_err-given_value : goal.returns-in_err-given_value
 returns-in_err-given_value c =
-    let p = err_from_is_err_and c.from-residual.result c.from-residual.ensures.1 in
+    let p = err_from_is_err_and c.from_residual.result c.from_residual.ensures.1 in
     p.1 ∙ ap Err p.2
     ∙ sym (values_stop c.args.columns.now c.loop-d.d-index c.loop-d.rest.now _ c.in_err-given_value.field-0.0 c.loop-d-test.true (c.in_err-given_value.ensures ∙ ap (given_by _) c.cut_token.ensures.token))
     ∙ c.loop-d.invariant

@@ -17,7 +17,7 @@ loop-entity-preserved g c =
 pub returns-in_err-share : goal.returns-in_err-share
 returns-in_err-share g c =
     let t : Table = g.S.Source.table c.args.source.now in
-    let p = err_from_is_err_and c.from-residual.result c.from-residual.ensures.1 in
+    let p = err_from_is_err_and c.from_residual.result c.from_residual.ensures.1 in
     let stop = share_stops t c.args.slot.day c.args.slot.interval c.loop-entity.entity 64 c.in_err-share.field-0.0 c.loop-entity-test.true c.loop-entity.invariant.course c.in_err-share.ensures in
     rw (p.1, p.2) (ap (λ a. next a (summed t c.args.slot.day c.args.slot.interval)) stop)
 
