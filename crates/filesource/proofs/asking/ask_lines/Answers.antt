@@ -22,7 +22,7 @@ pub line-preserved : goal.line-preserved
 line-preserved c =
     let ks = c.args.columns.now in
     let q = c.args.question in
-    ask_more ks q.determinant q.unit q.day q.interval c.line.answer _ c.line.rest.now _ c.loop-d.answer· _ c.in-Some.ensures.parts c.line.invariant
+    ask_more ks q.determinant q.unit q.day q.interval c.line.answer _ c.line.rest.now _ c.loop-d.answer-1 _ c.in-Some.ensures.parts c.line.invariant
     (says_column ks q.determinant q.unit q.day q.interval c.in-Some.line.now c.cut_key-key.result.1.now c.in-Ok.key c.covers-covers.result _ (sym c.in-Ok.is ∙ c.cut_key-key.ensures.key) c.if-key-question.false c.if-key-question-2.false c.covers-covers.ensures c.cut_key-key.ensures.left
     (sym (column_none ks q.determinant c.loop-d.d-index c.covers-covers.result c.loop-d.fields.now c.loop-d-test.false) ∙ c.loop-d.invariant.0))
     c.loop-d.invariant.1

@@ -45,25 +45,16 @@ invariant_of-self g c =
     let few = charged_few rd t w.day c.args.interval lawful s.rows s.paid s.charges s.charged by in
     let balanced = rows_balanced rd t w.day c.args.interval lawful s.rows s.paid s.charges s.charged by in
     let day = self.day in
-    let charges = self.charges in (
-      omega (arith, after.day, day),
-      (
-        omega (arith, after.intervals, d.0),
-        (
-          omega (arith, after.charged, after.intervals, few, charges),
-          (
-            reactive_more w v s.rows s.charged after.intervals after.charged after.totals small self.reactive,
-            (
-              held_more w v s.rows s.charged after.intervals after.charged after.totals small self.held,
-              (
-                load_more w v s.rows s.charged after.intervals after.charged after.totals small self.load,
-                (balanced_more w v s.rows s.charged after.intervals after.charged after.totals small self.balanced balanced, tt),
-              ),
-            ),
-          ),
-        ),
-      ),
-    )
+    let charges = self.charges in
+    record {
+      day = omega (arith, after.day, day);
+      few = omega (arith, after.intervals, d.0);
+      charges = omega (arith, after.charged, after.intervals, few, charges);
+      reactive = reactive_more w v s.rows s.charged after.intervals after.charged after.totals small self.reactive;
+      held = held_more w v s.rows s.charged after.intervals after.charged after.totals small self.held;
+      load = load_more w v s.rows s.charged after.intervals after.charged after.totals small self.load;
+      balanced = balanced_more w v s.rows s.charged after.intervals after.charged after.totals small self.balanced balanced;
+    }
 
 pub returns-in-Ok : goal.returns-in-Ok
 returns-in-Ok g c =

@@ -9,7 +9,15 @@ invariant_of-result g c =
     let w = c.start-work.ensures.intervals in
     let k = c.start-work.ensures.charged in
     let blank = c.start-work.ensures.totals in
-    (omega arith, (omega arith, (omega arith, ((λ q lt. none_small _ _ _ (ap (λ a. a.reactive) (blank q lt))), ((λ q lt. none_small _ _ _ (ap (λ a. a.held) (blank q lt))), ((λ q lt. none_small _ _ _ (ap (λ a. a.load) (blank q lt))), (balanced_none _ _ blank, tt)))))))
+    record {
+      day = omega arith;
+      few = omega arith;
+      charges = omega arith;
+      reactive = λ q lt. none_small _ _ _ (ap (λ a. a.reactive) (blank q lt));
+      held = λ q lt. none_small _ _ _ (ap (λ a. a.held) (blank q lt));
+      load = λ q lt. none_small _ _ _ (ap (λ a. a.load) (blank q lt));
+      balanced = balanced_none _ _ blank;
+    }
 
 pub returns : goal.returns
 returns g c = record {
