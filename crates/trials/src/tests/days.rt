@@ -7,6 +7,7 @@ use runs::run::Run;
 use runs::working::Worked;
 use sources::records::RecordSource;
 use std::process::Abort;
+use std::test::Fail;
 
 const EACH: Worked = Worked {
     warnings: 0,
@@ -18,7 +19,7 @@ const EACH: Worked = Worked {
 // None of them is due after the last.
 const PAST: [u32; 4] = [97, 96, 1, 0];
 
-fn check_day(rt: &impl Abort, run: &mut Run<HalfAway>) -> Result<(), Fail> {
+fn check_day(rt: &impl Abort, run: &mut Run<HalfAway>) {
     let day = small_day();
     for interval in 1..97 {
         let mut list = [BLANK; 256];
@@ -28,7 +29,6 @@ fn check_day(rt: &impl Abort, run: &mut Run<HalfAway>) -> Result<(), Fail> {
         let mut list = [BLANK; 256];
         assert_eq!(rt; number(call(run, &day, *interval, &mut list)), 12);
     }
-    Ok(())
 }
 
 // 96 times 795 and 663, 29,000, 7,615 twice and 15,229.
@@ -47,9 +47,8 @@ const FIRST_WHOLE: Amounts = Amounts {
 #[test]
 fn whole_day(rt: HostRuntime) -> Result<(), Fail> {
     let mut run = open()?;
-    let outcome = check_day(&rt, &mut run);
+    check_day(&rt, &mut run);
     let sheet = run.close();
-    outcome?;
     check_sheet(&rt, &sheet, 96, &SHARES);
     assert_eq!(rt; sheet.charged(), 288);
     assert_eq!(rt; sheet.amounts(0), Some(FIRST_WHOLE));

@@ -4,16 +4,12 @@ use rounding::rules::HalfAway;
 use runs::run::Run;
 use sources::records::Record;
 use std::process::Abort;
+use std::test::Fail;
 
 // An interval, whether the list is one row short, and the number of the answer.
 type Call = (u32, bool, u32);
 
-fn check_calls(
-    rt: &impl Abort,
-    run: &mut Run<HalfAway>,
-    day: &[Record],
-    calls: &[Call],
-) -> Result<(), Fail> {
+fn check_calls(rt: &impl Abort, run: &mut Run<HalfAway>, day: &[Record], calls: &[Call]) {
     for (i, (interval, is_short, answer)) in calls.iter().enumerate() {
         let told = if *is_short {
             call(run, day, *interval, &mut [BLANK; 255])
@@ -22,7 +18,6 @@ fn check_calls(
         };
         assert_eq!(rt; number(told), *answer, "call {i}");
     }
-    Ok(())
 }
 
 const DUE: [Call; 13] = [
@@ -44,9 +39,8 @@ const DUE: [Call; 13] = [
 #[test]
 fn due_intervals(rt: HostRuntime) -> Result<(), Fail> {
     let mut run = open()?;
-    let outcome = check_calls(&rt, &mut run, &small_day(), &DUE);
+    check_calls(&rt, &mut run, &small_day(), &DUE);
     let sheet = run.close();
-    outcome?;
     check_sheet(&rt, &sheet, 2, &SHARES);
     Ok(())
 }
@@ -66,9 +60,8 @@ const HALTING: [Call; 8] = [
 #[test]
 fn stopped_runs(rt: HostRuntime) -> Result<(), Fail> {
     let mut run = open()?;
-    let outcome = check_calls(&rt, &mut run, &without(small_day(), 13, 0), &HALTING);
+    check_calls(&rt, &mut run, &without(small_day(), 13, 0), &HALTING);
     let sheet = run.close();
-    outcome?;
     check_sheet(&rt, &sheet, 0, &SHARES);
     Ok(())
 }
@@ -78,9 +71,8 @@ const EMPTY_LIST: [Call; 2] = [(1, false, 14), (1, false, 11)];
 #[test]
 fn no_records(rt: HostRuntime) -> Result<(), Fail> {
     let mut run = open()?;
-    let outcome = check_calls(&rt, &mut run, &[], &EMPTY_LIST);
+    check_calls(&rt, &mut run, &[], &EMPTY_LIST);
     let sheet = run.close();
-    outcome?;
     check_sheet(&rt, &sheet, 0, &SHARES);
     Ok(())
 }
