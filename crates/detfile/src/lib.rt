@@ -1,4 +1,6 @@
 // The determinant file: its line of names, its value lines, and the check of the whole.
+#![tactic(auto)]
+
 pub mod check;
 pub mod columns;
 pub mod key;

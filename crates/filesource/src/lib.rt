@@ -1,3 +1,5 @@
 // A determinant file as a source.
+#![tactic(auto)]
+
 pub mod asking;
 pub mod source;

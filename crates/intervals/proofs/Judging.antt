@@ -1,6 +1,5 @@
 -- What a judgement tells of the answer.
-use Rattle.std.proofs.Common.{◌≡◌, ℕ, ◌<◌, Bool, true, false, cond, ◌||◌, ◌⊎◌, ℤ, pos, nat_abs, Some, None, Ok, Err, Option, Result, unwrap_or, sym, refl, ap, ◌∙◌, inl, inr, arith}
-use Rattle.std.proofs.lemmas.Bool.{true≢false}
+use Rattle.std.proofs.Common.{◌≡◌, ℕ, Bool, true, false, cond, ◌⊎◌, ℤ, pos, Some, None, Ok, Err, Option, unwrap_or, sym, refl, ap, ◌∙◌, inl, inr, arith}
 use Rattle.terms.specs.declared.answer.Answer.{Answer}
 use Rattle.terms.specs.declared.answer.Answer.TheVariants.{NoCut, Null, Figure}
 use Rattle.terms.specs.declared.determinant.Determinant.{Determinant}
@@ -10,7 +9,6 @@ use Rattle.terms.specs.declared.determinant.Missing.TheVariants.{Skip, Zero, War
 use Rattle.terms.specs.Determinants.{missing_of, admitted}
 use Rattle.amounts.specs.Readings.{cost_in}
 use Rattle.amounts.specs.Tables.{missing, figure, cost}
-use Rattle.intervals.specs.declared.asking.Out.{Out}
 use Rattle.intervals.specs.declared.asking.Out.TheVariants.{Skip as Passes, Stop}
 use Rattle.intervals.specs.declared.fault.Fault.{Fault}
 use Rattle.intervals.specs.declared.fault.Cause.{Cause}

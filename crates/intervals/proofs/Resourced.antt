@@ -1,21 +1,19 @@
 -- The asking of one Resource, as its loop goes: one more question, a question that ends it, and what was kept at its end.
-use Rattle.std.proofs.Common.{◌≡◌, ℕ, zero, suc, ◌+◌, ◌<◌, ◌≤◌, Bool, true, false, ◌||◌, ◌⊎◌, List, length, get_or, drop, ℤ, pos, nat_abs, Some, None, Ok, Err, Option, Result, sym, refl, ap, ◌∙◌, subst, inl, inr, arith}
+use Rattle.std.proofs.Common.{◌≡◌, ℕ, zero, suc, ◌+◌, ◌<◌, true, false, List, length, get_or, drop, ℤ, pos, nat_abs, Some, None, Ok, Err, Option, sym, refl, ap, ◌∙◌, inl, inr, arith}
 use Rattle.std.proofs.lemmas.Bool.{or_left, or_right, or_from, and_from}
 use Rattle.terms.specs.declared.determinant.Determinant.{Determinant}
 use Rattle.terms.specs.declared.determinant.Determinant.TheVariants.{Owner, Vssvariol, Urllag, Urllead, Rtvar, Hsl, Lsl, Rtspp, Rthslaiec, Rtvssaiec, Rtmg}
-use Rattle.terms.specs.declared.determinant.Missing.TheVariants.{Skip, Warning as Warns}
-use Rattle.terms.specs.Determinants.{missing_of, admitted}
+use Rattle.terms.specs.declared.determinant.Missing.TheVariants.{Warning as Warns}
+use Rattle.terms.specs.Determinants.{missing_of}
 use Rattle.terms.specs.Sources.{Table}
-use Rattle.amounts.specs.Readings.{cost_in, ranged_limits, ranged_output, ranged}
+use Rattle.amounts.specs.Readings.{cost_in, ranged}
 use Rattle.amounts.specs.Tables.{missing, figure, cost, answer, at, skipped, readings_at}
-use Rattle.amounts.specs.declared.readings.Readings.{Readings}
 use Rattle.amounts.proofs.Ranged.{admitted_sized}
 use Rattle.intervals.specs.declared.asking.Out.{Out}
 use Rattle.intervals.specs.declared.asking.Out.TheVariants.{Skip as Passes, Stop}
 use Rattle.intervals.specs.declared.fault.Fault.{Fault}
-use Rattle.intervals.specs.declared.judge.Judgement.TheVariants.{Skipped, Stopped}
 use Rattle.intervals.specs.declared.warning.Warning.{Warning}
-use Rattle.intervals.specs.Courses.{judged_at, rows_for, walk, of_resource, written, After, after}
+use Rattle.intervals.specs.Courses.{judged_at, rows_for, walk, of_resource, written, after}
 use Rattle.intervals.specs.Askings.{answered_by, ended_by, after_by, held_as, Kept, Passed, Reads, number_at, gathered, Found}
 use Rattle.intervals.specs.declared.asking.Asked.{Asked}
 use Rattle.intervals.proofs.Walked.{walk_more, walk_skips, walk_stops}

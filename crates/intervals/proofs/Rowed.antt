@@ -1,5 +1,5 @@
 -- How many warning rows an interval can have, and where they stand in a list with room for them.
-use Rattle.std.proofs.Common.{◌≡◌, ℕ, zero, suc, ◌+◌, ◌*◌, ◌<◌, ◌≤◌, Bool, true, false, cond, eqb, List, [], ◌∷◌, ◌++◌, length, drop, set, ℤ, nat_abs, Some, None, Option, sym, refl, ap, ◌∙◌, subst, append_assoc, arith}
+use Rattle.std.proofs.Common.{◌≡◌, ℕ, zero, suc, ◌+◌, ◌*◌, ◌≤◌, Bool, true, false, cond, eqb, List, [], ◌∷◌, ◌++◌, length, drop, set, ℤ, nat_abs, Some, None, Option, sym, refl, ap, ◌∙◌, append_assoc, arith}
 use Rattle.std.proofs.lemmas.List.{length-append, length_push, set_at}
 use Rattle.std.proofs.lemmas.Bool.{cond_both}
 use Rattle.terms.specs.declared.answer.Answer.{Answer}
@@ -18,7 +18,7 @@ use Rattle.intervals.specs.declared.judge.Judgement.{Judgement}
 use Rattle.intervals.specs.declared.judge.Judgement.TheVariants.{Taken, Warned, Skipped, Stopped}
 use Rattle.intervals.specs.declared.warning.Warning.{Warning}
 use Rattle.intervals.specs.Judgements.{wanting, judged}
-use Rattle.intervals.specs.Courses.{Course, clear, halted, fault_at, before, next, rows_for, judged_at, step, walk, of_resource, resource, resources_to, shares_to, summed, course, written}
+use Rattle.intervals.specs.Courses.{Course, clear, halted, fault_at, next, rows_for, judged_at, step, walk, of_resource, resource, resources_to, shares_to, summed, course, written}
 use Rattle.intervals.proofs.Walked.{few_rows}
 
 -- ---- in a list with room

@@ -1,16 +1,15 @@
 -- The course of the asking, one question after the other.
-use Rattle.std.proofs.Common.{◌≡◌, ℕ, zero, suc, ◌+◌, ◌<◌, ◌≤◌, Bool, true, false, cond, ◌≢◌, List, [], ◌∷◌, ◌++◌, length, get_or, drop, set, ℤ, Some, None, Option, sym, refl, ap, ◌∙◌, subst, add-zero, arith, below_more}
+use Rattle.std.proofs.Common.{◌≡◌, ℕ, suc, ◌+◌, ◌<◌, ◌≤◌, ◌≢◌, List, [], ◌∷◌, ◌++◌, length, get_or, drop, set, ℤ, Some, None, Option, sym, refl, ap, ◌∙◌, add-zero, arith, below_more}
 use Rattle.std.proofs.lemmas.List.{at_drop_more, at_drop_all, length-append, get_or-set_same, get_or-set_other}
 use Rattle.std.proofs.lemmas.Bool.{cond_both}
 use Rattle.terms.specs.declared.determinant.Determinant.{Determinant}
 use Rattle.terms.specs.declared.determinant.Determinant.TheVariants.{Owner}
 use Rattle.terms.specs.Sources.{Table}
-use Rattle.intervals.specs.declared.fault.Fault.{Fault}
 use Rattle.intervals.specs.declared.fault.Cause.{Cause}
 use Rattle.intervals.specs.declared.judge.Judgement.{Judgement}
 use Rattle.intervals.specs.declared.judge.Judgement.TheVariants.{Taken, Warned, Skipped, Stopped}
 use Rattle.intervals.specs.declared.warning.Warning.{Warning}
-use Rattle.intervals.specs.Courses.{Course, clear, halted, fault_at, before, opens_hour, rows_for, judged_at, step, walk, resource, of_resource, written, After, after}
+use Rattle.intervals.specs.Courses.{Course, fault_at, before, opens_hour, rows_for, judged_at, step, walk, resource, of_resource, written, after}
 use Rattle.intervals.specs.Askings.{held_as, Kept}
 
 pub written_append : (ws : List Warning) (n : ℕ) (rs ss : List Warning) → written ws n (rs ++ ss) ≡ written (written ws n rs) (n + length rs) ss

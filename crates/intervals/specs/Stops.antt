@@ -1,5 +1,5 @@
 -- Why an interval stops: each cause's number, and what a stop names. Assumes nothing.
-use Rattle.std.specs.Prelude.{ℕ, List, [], ◌∷◌}
+use Rattle.std.specs.Prelude.{ℕ, [], ◌∷◌}
 use Rattle.terms.specs.Told.{Told, refuse}
 use Rattle.terms.specs.Determinants.{number_of}
 use Rattle.intervals.specs.declared.fault.Cause.{Cause}

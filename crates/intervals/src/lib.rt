@@ -1,4 +1,6 @@
 // One interval: what is asked and in which order, what a missing figure does, what is paid and what is charged.
+#![tactic(auto)]
+
 mod asking;
 mod charging;
 pub mod fault;

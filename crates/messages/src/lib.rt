@@ -1,4 +1,6 @@
 // What the program says in words: why a file is refused or a run stops and what a warning means.
+#![tactic(auto)]
+
 mod names;
 mod place;
 mod quotes;

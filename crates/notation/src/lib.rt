@@ -1,2 +1,4 @@
 // How numbers are written.
+#![tactic(auto)]
+
 pub mod figure;

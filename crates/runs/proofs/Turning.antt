@@ -1,5 +1,5 @@
 -- A call for an interval that is accepted.
-use Rattle.std.proofs.Common.{◌≡◌, ℕ, ◌+◌, ◌<◌, ◌≤◌, Bool, true, false, cond, ◌&&◌, eqb, ltb, List, length, ℤ, Some, None, Option, sym, refl, ap, ◌∙◌, subst, arith}
+use Rattle.std.proofs.Common.{◌≡◌, ℕ, ◌+◌, ◌<◌, ◌≤◌, Bool, true, false, cond, eqb, ltb, List, length, ℤ, Some, None, Option, sym, refl, ap, ◌∙◌, arith}
 use Rattle.std.proofs.lemmas.Bool.{and_parts, ltb-true, eqb-true, le-ltb}
 use Rattle.terms.specs.Told.{fine}
 use Rattle.terms.specs.Sources.{Table}
@@ -9,7 +9,7 @@ use Rattle.intervals.specs.declared.warning.Warning.{Warning}
 use Rattle.intervals.specs.Courses.{Course, course, written}
 use Rattle.intervals.specs.Settlements.{SettledBy, stop_of}
 use Rattle.intervals.proofs.Rowed.{written_front}
-use Rattle.runs.specs.declared.refusal.IntervalRefusal.TheVariants.{Stopped, NotDue, FewRows}
+use Rattle.runs.specs.declared.refusal.IntervalRefusal.TheVariants.{FewRows}
 use Rattle.runs.specs.declared.work.Work.{Work}
 use Rattle.runs.specs.Turns.{is_due, barred, worked, worked_of, answering, warned, stopping}
 

@@ -1,6 +1,6 @@
 -- One call for an interval: what it answers and what it leaves. Assumes nothing.
-use Rattle.std.specs.Prelude.{◌≡◌, ℕ, ◌+◌, Bool, true, false, cond, ◌&&◌, ◌||◌, List, ◌∷◌, ◌++◌, length, drop, ℤ, Some, None, Ok, Err, Option, Result, ◌==◌, nat_lt}
-use Rattle.terms.specs.Told.{Told, fine, refuse}
+use Rattle.std.specs.Prelude.{◌≡◌, ℕ, ◌+◌, Bool, true, cond, ◌&&◌, List, ◌∷◌, ◌++◌, length, drop, ℤ, Some, None, Ok, Err, Option, Result, ◌==◌, nat_lt}
+use Rattle.terms.specs.Told.{Told, fine}
 use Rattle.terms.specs.Sources.{Table}
 use Rattle.terms.specs.Limits.{last_interval}
 use Rattle.amounts.specs.Sums.{sum_to}
@@ -10,7 +10,7 @@ use Rattle.intervals.specs.declared.fault.Fault.{Fault}
 use Rattle.intervals.specs.declared.interval.Settled.{Settled}
 use Rattle.intervals.specs.declared.warning.Warning.{Warning}
 use Rattle.intervals.specs.Stops.{stop_at}
-use Rattle.intervals.specs.Courses.{Course, course}
+use Rattle.intervals.specs.Courses.{course}
 use Rattle.runs.specs.declared.refusal.IntervalRefusal.{IntervalRefusal}
 use Rattle.runs.specs.declared.refusal.IntervalRefusal.TheVariants.{Stopped, NotDue, FewRows, Halted}
 use Rattle.runs.specs.declared.work.Work.{Work}

@@ -1,4 +1,6 @@
 // A run works the intervals of one day; closed, it is a sheet.
+#![tactic(auto)]
+
 pub mod day;
 pub mod opening;
 pub mod refusal;

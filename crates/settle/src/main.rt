@@ -1,4 +1,6 @@
 // The program: `settle COMMAND ...`, or one command a line on standard input.
+#![tactic(auto)]
+
 mod ask;
 mod check;
 mod console;

@@ -1,4 +1,6 @@
 // The terms of the market that every layer shares: bounds, determinants, questions and answers, and what a source is.
+#![tactic(auto)]
+
 pub mod answer;
 pub mod bytes;
 pub mod determinant;

@@ -1,4 +1,6 @@
 // Amounts worked by hand: a table of what each row is given and what it must give. The formulas give it, and so does the code.
+#![tactic(auto)]
+
 pub mod laws;
 pub mod row;
 pub mod table;

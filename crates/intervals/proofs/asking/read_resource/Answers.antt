@@ -1,4 +1,4 @@
-use Rattle.std.proofs.Common.{◌≡◌, Ok, subst}
+use Rattle.std.proofs.Common.{Ok, subst}
 use Rattle.terms.specs.Sources.{Table}
 use Rattle.intervals.specs.Askings.{Reads}
 use Rattle.intervals.proofs.Resourced.{owner_is, found}

@@ -1,4 +1,4 @@
-use Rattle.std.proofs.Common.{◌≡◌, ℕ, ◌+◌, ◌<◌, ◌≤◌, true, ℤ, None, sym, refl, ap, ◌∙◌, subst, arith, rules}
+use Rattle.std.proofs.Common.{◌≡◌, ℕ, true, ℤ, None, sym, refl, ap, ◌∙◌, subst, arith, rules}
 use Rattle.terms.specs.Told.{fine}
 use Rattle.terms.specs.Sources.{Table}
 use Rattle.amounts.specs.Tables.{Judged}

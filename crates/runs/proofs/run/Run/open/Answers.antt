@@ -1,4 +1,4 @@
-use Rattle.std.proofs.Common.{◌≡◌, sym, refl, ap, arith}
+use Rattle.std.proofs.Common.{refl, ap, arith}
 use Rattle.runs.proofs.Growing.{worked_none, none_small, balanced_none}
 use Rattle.runs.proofs.run.Run.open.Goals as goal
 
