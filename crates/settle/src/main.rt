@@ -11,18 +11,18 @@ mod sheet;
 mod words;
 mod work;
 
-use anyhow::anyhow;
 use console::Console;
 use std::env;
+use std::process::ExitCode;
 
 // Status 1 where the one command of a call found something wrong, which it has said, and where input or output fails.
-fn main(rt: HostRuntime) -> anyhow::Result<()> {
+fn main(rt: HostRuntime) -> ExitCode {
     match run(&rt) {
-        Ok(true) => Ok(()),
-        Ok(false) => Err(anyhow!("refused")),
+        Ok(true) => ExitCode::SUCCESS,
+        Ok(false) => ExitCode::FAILURE,
         Err(e) => {
-            eprintln!(rt; "settle: {e}")?;
-            Err(e)
+            let _ = eprintln!(rt; "settle: {e}");
+            ExitCode::FAILURE
         }
     }
 }

@@ -1,7 +1,7 @@
 // The check asks here for the proof that the formulas give the amount of every row.
-ghost use Rattle.std.specs.List.{AllByRecursion as All};
+ghost use Rattle.std.specs.List.{AllByRecursion};
 ghost use Rattle.worked.specs.Worked.{table, Works};
 
 pub fn table_holds()
-    ensures { All Works table }
+    ensures { AllByRecursion Works table }
 {}
