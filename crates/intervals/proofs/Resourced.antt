@@ -61,15 +61,15 @@ module _ (t : Table) (y i u : ℕ) (ws : List Warning) (n k : ℕ) (lt : k < 11)
       let s = skips d (answer t y i d u) (answered_skip d u (judged_at t y i d u) e) in
       elim (skip_rows d s.0) [
         | inl o ↦ owner_missing (ap (λ x. missing (answer t y i x u)) (sym o) ∙ s.1) (ap (λ x. figure (answer t y i x u)) (sym o) ∙ s.2)
-        | inr v ↦ instruction-missing k (sym is ∙ v) kept (ap (λ x. missing (answer t y i x u)) (sym v) ∙ s.1)
+        | inr v ↦ instruction_missing k (sym is ∙ v) kept (ap (λ x. missing (answer t y i x u)) (sym v) ∙ s.1)
       ]
     where
       owner_missing : missing (answer t y i Owner u) ≡ true → figure (answer t y i Owner u) ≡ pos 0 → Passed t y i u
       owner_missing p q = record { missing = or_left _ _ p; owner = rw q (omega arith) }
 
-      instruction-missing : (j : ℕ) → get_or of_resource j Owner ≡ Vssvariol → Kept t y i u j xs → missing (answer t y i Vssvariol u) ≡ true → Passed t y i u
-      instruction-missing zero v ks p = absurd (let z : ◌≡◌ {A = ℕ} 0 1 = cc in let b : ⊥ = omega arith in b)
-      instruction-missing (suc j) v ks p =
+      instruction_missing : (j : ℕ) → get_or of_resource j Owner ≡ Vssvariol → Kept t y i u j xs → missing (answer t y i Vssvariol u) ≡ true → Passed t y i u
+      instruction_missing zero v ks p = absurd (let z : ◌≡◌ {A = ℕ} 0 1 = cc in let b : ⊥ = omega arith in b)
+      instruction_missing (suc j) v ks p =
           let o = number_kept Owner (get_or xs 0 None) (answer t y i Owner u) (λ w. let z : ◌≡◌ {A = ℕ} 0 1 = cc in omega arith) (ks 0 (omega arith)) in
           let h = admitted_sized Owner (at t y i Owner u) o.within in
           record { missing = or_right _ _ p; owner = omega arith }
