@@ -26,7 +26,8 @@ pub fn cut_line(rest: &[u8]) -> Option<(&[u8], &[u8])>
 
 // Checks the value lines, and counts them.
 fn check_lines(columns: &[Determinant], values: &[u8]) -> Result<u32, FileRefusal>
-    requires { (length columns.now ≤ 13) × (length values.now ≤ 16777216) }
+    requires few_columns { length columns.now ≤ 13 }
+    requires few_bytes { length values.now ≤ 16777216 }
     ensures { result ≡ lines_judged columns.now 0 (lines values.now) }
 {
     let mut count: u32 = 0;

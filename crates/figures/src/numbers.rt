@@ -68,7 +68,8 @@ pub fn short_number(field: &[u8]) -> Option<u32>
 
 // `n` times ten to the number of `places`.
 fn shifted(n: u64, places: usize) -> u64
-    requires { (n < 10000000000) × (places ≤ 6) }
+    requires ten_digits { n < 10000000000 }
+    requires few_places { places ≤ 6 }
     ensures value { result ≡ n * 10 ^ places }
     ensures bound { result ≤ n * 1000000 }
 {

@@ -26,9 +26,9 @@ impl<'a> FileSource<'a> {
         columns: Columns,
         values: &'a [u8],
     ) -> FileSource<'a>
-        requires verdict_value { verdict ≡ judged bytes.now }
-        requires determinants_value { numbers (take columns.count columns.determinants) ≡ numbers (columns_of bytes.now) }
-        requires values_value { values.now ≡ values_of bytes.now }
+        requires told { verdict ≡ judged bytes.now }
+        requires headed { numbers (take columns.count columns.determinants) ≡ numbers (columns_of bytes.now) }
+        requires valued { values.now ≡ values_of bytes.now }
         ensures { result.bytes.now ≡ bytes.now }
     {
         FileSource {
@@ -41,8 +41,8 @@ impl<'a> FileSource<'a> {
 
     // A refused file.
     pub(crate) fn closed(bytes: &'a [u8], verdict: Result<u32, FileRefusal>) -> FileSource<'a>
-        requires verdict_value { verdict ≡ judged bytes.now }
-        requires verdict_value_2 { is_ok verdict ≡ false }
+        requires told { verdict ≡ judged bytes.now }
+        requires refused { is_ok verdict ≡ false }
         ensures { result.bytes.now ≡ bytes.now }
     {
         FileSource::open(bytes, verdict, Columns::none(), &[])
