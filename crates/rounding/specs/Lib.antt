@@ -1,3 +1,3 @@
 pub mod Rounds
 pub mod Refusals
-pub mod Rounded
+pub mod RoundsKept
