@@ -1,7 +1,8 @@
 -- The check's verdict is as the law says.
 use Rattle.std.proofs.Common.{◌≡◌, ℕ, suc, ◌+◌, ◌≤◌, true, false, ◌&&◌, eqb, leb, List, [], ◌∷◌, ◌++◌, length, Some, None, Ok, Err, Option, Result, sym, refl, ap, ◌∙◌, subst, inl, inr, arith}
+use Rattle.std.specs.List.{AllByRecursion}
 use Rattle.std.proofs.lemmas.Bool.{and_parts, and_from, leb-true, leb-false, le-leb, eqb-true, eqb-false, eq-eqb, cond_both, true≢false}
-use Rattle.terms.specs.Decisions.{Each, Among}
+use Rattle.terms.specs.Decisions.{Among}
 use Rattle.terms.specs.declared.determinant.Determinant.{Determinant}
 use Rattle.figures.specs.Cuts.{cut, first_field, past_field, spaces}
 use Rattle.figures.specs.declared.numbers.Fault.{Fault}
@@ -72,8 +73,8 @@ line_said ks n l =
 
 -- the verdict on lines of which n stand before
 abbrev VerdictOn : List Determinant → ℕ → List Line → Result ℕ FileRefusal → Type 0
-VerdictOn ks n ls (Ok k) = Each (SoundLine ks) ls × (k ≡ n + length ls)
-VerdictOn ks n ls (Err e) = (m : Among ls) × Each (SoundLine ks) m.before × FaultyLine ks (n + length m.before + 2) e m.one
+VerdictOn ks n ls (Ok k) = AllByRecursion (SoundLine ks) ls × (k ≡ n + length ls)
+VerdictOn ks n ls (Err e) = (m : Among ls) × AllByRecursion (SoundLine ks) m.before × FaultyLine ks (n + length m.before + 2) e m.one
 
 abbrev after : (l : List ℕ) (ls : List Line) → Among ls → Among (ended l ∷ ls)
 after l ls m = record { before = ended l ∷ m.before; one = m.one; after = m.after; whole = ap (λ x. ended l ∷ x) m.whole }

@@ -1,7 +1,7 @@
 -- The verdict on a file in words: which line is at fault, and that those before it are sound. Assumes nothing.
 use Rattle.std.specs.Prelude.{◌≡◌, ℕ, ◌+◌, ◌<◌, ◌≤◌, ◌⊎◌, List, [], ◌∷◌, length, ℤ, Some, None, Ok, Err, Option, Result, ◌≢◌}
-use Rattle.std.specs.List.{flat_map}
-use Rattle.terms.specs.Decisions.{Each, Among}
+use Rattle.std.specs.List.{AllByRecursion, flat_map}
+use Rattle.terms.specs.Decisions.{Among}
 use Rattle.terms.specs.declared.determinant.Determinant.{Determinant}
 use Rattle.figures.specs.Cuts.{cut, first_field, past_field, spaces}
 use Rattle.figures.specs.declared.numbers.Fault.{Fault}
@@ -18,7 +18,7 @@ use Rattle.detfile.specs.Files.{most_bytes}
 -- LINES
 -- has no line feed inside
 abbrev pub Unbroken : List ℕ → Type 0
-Unbroken bs = Each (λ b. b ≢ 10) bs
+Unbroken bs = AllByRecursion (λ b. b ≢ 10) bs
 
 -- only the last line may lack its line feed, and then it is not empty
 abbrev pub Endings : List Line → Type 0
@@ -61,8 +61,8 @@ FaultyLine ks n e (ended l) = ((Shaped ks l → ⊥) × (e ≡ Shape n)) ⊎ ((f
 -- every value line is sound and n is their number; or one is at fault, the lines before it are sound, and it is named by its place, the first
 -- value line being line 2
 abbrev pub LinesVerdict : List Determinant → List Line → Result ℕ FileRefusal → Type 0
-LinesVerdict ks ls (Ok n) = Each (SoundLine ks) ls × (n ≡ length ls)
-LinesVerdict ks ls (Err e) = (m : Among ls) × Each (SoundLine ks) m.before × FaultyLine ks (length m.before + 2) e m.one
+LinesVerdict ks ls (Ok n) = AllByRecursion (SoundLine ks) ls × (n ≡ length ls)
+LinesVerdict ks ls (Err e) = (m : Among ls) × AllByRecursion (SoundLine ks) m.before × FaultyLine ks (length m.before + 2) e m.one
 
 -- THE FILE
 pub data Verdict (bs : List ℕ) : Result ℕ FileRefusal → Type 0 where

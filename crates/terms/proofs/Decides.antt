@@ -1,10 +1,11 @@
 -- A list decides a question as the law says, and in no other way.
 use Rattle.std.proofs.Common.{◌≡◌, ℕ, ◌+◌, ◌<◌, ◌≤◌, ◌⊎◌, List, [], ◌∷◌, ◌++◌, length, get_or, drop, ℤ, sym, refl, ap, ◌∙◌, inl, inr, arith}
+use Rattle.std.specs.List.{AllByRecursion}
 use Rattle.std.proofs.lemmas.List.{at_drop_more, at_drop_all}
 use Rattle.terms.specs.declared.answer.Answer.{Answer}
 use Rattle.terms.specs.declared.answer.Answer.TheVariants.{NoCut, Null, Figure}
 use Rattle.terms.specs.Answers.{later}
-use Rattle.terms.specs.Decisions.{decide, Each, Silent, Among, Decided, Decision}
+use Rattle.terms.specs.Decisions.{decide, Silent, Among, Decided, Decision}
 
 silent_none : (s : Answer) → s ≡ NoCut → Silent s
 silent_none s p z e = let o : ◌≡◌ {A = ℕ} 0 1 = cc in omega arith
@@ -21,9 +22,9 @@ null_cut e = let o : ◌≡◌ {A = ℕ} 0 1 = cc in absurd (let z : ⊥ = omega
 module _ {X : Type 0} (says : X → Answer) where
   -- the law with an answer so far
   abbrev On : Answer → List X → Answer → Type 0
-  On a xs (Figure z) = Decided says xs (Figure z) ⊎ ((a ≡ Figure z) × Each (λ x. Silent (says x)) xs)
-  On a xs Null = Each (λ x. Silent (says x)) xs × ((a ≡ Null) ⊎ ((a ≡ NoCut) × (m : Among xs) × (says m.one ≡ Null)))
-  On a xs NoCut = (a ≡ NoCut) × Each (λ x. says x ≡ NoCut) xs
+  On a xs (Figure z) = Decided says xs (Figure z) ⊎ ((a ≡ Figure z) × AllByRecursion (λ x. Silent (says x)) xs)
+  On a xs Null = AllByRecursion (λ x. Silent (says x)) xs × ((a ≡ Null) ⊎ ((a ≡ NoCut) × (m : Among xs) × (says m.one ≡ Null)))
+  On a xs NoCut = (a ≡ NoCut) × AllByRecursion (λ x. says x ≡ NoCut) xs
 
   abbrev more : (x : X) (xs : List X) → Among xs → Among (x ∷ xs)
   more x xs m = record { before = x ∷ m.before; one = m.one; after = m.after; whole = ap (λ l. x ∷ l) m.whole }
@@ -89,11 +90,11 @@ module _ {X : Type 0} (says : X → Answer) where
   keeps z Null n = refl
   keeps z (Figure w) n = absurd (n w refl)
 
-  silent : (z : ℤ) (xs : List X) → Each (λ x. Silent (says x)) xs → decide says (Figure z) xs ≡ Figure z
+  silent : (z : ℤ) (xs : List X) → AllByRecursion (λ x. Silent (says x)) xs → decide says (Figure z) xs ≡ Figure z
   silent z [] k = refl
   silent z (x ∷ xs) k = ap (λ a. decide says a xs) (keeps z (says x) k.0) ∙ silent z xs k.1
 
-  last : (a : Answer) (before after : List X) (x : X) (z : ℤ) → says x ≡ Figure z → Each (λ y. Silent (says y)) after → decide says a (before ++ x ∷ after) ≡ Figure z
+  last : (a : Answer) (before after : List X) (x : X) (z : ℤ) → says x ≡ Figure z → AllByRecursion (λ y. Silent (says y)) after → decide says a (before ++ x ∷ after) ≡ Figure z
   last a [] after x z e k = ap (λ s. decide says (later a s) after) e ∙ silent z after k
   last a (y ∷ before) after x z e k = last (later a (says y)) before after x z e k
 
@@ -102,7 +103,7 @@ module _ {X : Type 0} (says : X → Answer) where
   null_keeps Null n = refl
   null_keeps (Figure w) n = absurd (n w refl)
 
-  null_stays : (xs : List X) → Each (λ x. Silent (says x)) xs → decide says Null xs ≡ Null
+  null_stays : (xs : List X) → AllByRecursion (λ x. Silent (says x)) xs → decide says Null xs ≡ Null
   null_stays [] k = refl
   null_stays (x ∷ xs) k = ap (λ a. decide says a xs) (null_keeps (says x) k.0) ∙ null_stays xs k.1
 
@@ -111,7 +112,7 @@ module _ {X : Type 0} (says : X → Answer) where
   none_later Null n = inr refl
   none_later (Figure w) n = absurd (n w refl)
 
-  null_last : (before after : List X) (x : X) → says x ≡ Null → Each (λ y. Silent (says y)) (before ++ x ∷ after) → decide says NoCut (before ++ x ∷ after) ≡ Null
+  null_last : (before after : List X) (x : X) → says x ≡ Null → AllByRecursion (λ y. Silent (says y)) (before ++ x ∷ after) → decide says NoCut (before ++ x ∷ after) ≡ Null
   null_last [] after x e k = ap (λ s. decide says (later NoCut s) after) e ∙ null_stays after k.1
   null_last (y ∷ before) after x e k =
       elim (none_later (says y) k.0) [
@@ -119,7 +120,7 @@ module _ {X : Type 0} (says : X → Answer) where
         | inr q ↦ ap (λ a. decide says a (before ++ x ∷ after)) q ∙ null_stays (before ++ x ∷ after) k.1
       ]
 
-  none_stays : (xs : List X) (a : Answer) → Each (λ x. says x ≡ NoCut) xs → decide says a xs ≡ a
+  none_stays : (xs : List X) (a : Answer) → AllByRecursion (λ x. says x ≡ NoCut) xs → decide says a xs ≡ a
   none_stays [] a k = refl
   none_stays (x ∷ xs) a k = ap (λ s. decide says (later a s) xs) k.0 ∙ none_stays xs a k.1
 

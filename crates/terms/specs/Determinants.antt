@@ -1,5 +1,5 @@
 -- The table of determinants. Assumes nothing.
-use Rattle.std.specs.Prelude.{◌≡◌, ℕ, ◌≤◌, Bool, cond, ◌&&◌, List, [], ◌∷◌, ℤ, pos, neg_ℤ, ◌≤ℤ◌, Some, None, codes, Option, int_le, nat_eq, unsigned_abs}
+use Rattle.std.specs.Prelude.{◌≡◌, ℕ, ◌≤◌, Bool, ◌&&◌, List, [], ◌∷◌, ℤ, pos, neg_ℤ, ◌≤ℤ◌, Some, None, Ok, Err, codes, Option, Result, find, int_le, nat_eq, unsigned_abs}
 use Rattle.std.specs.Str.{bytes_eq}
 use Rattle.terms.specs.declared.determinant.Determinant.{Determinant}
 use Rattle.terms.specs.declared.determinant.Determinant.TheVariants.{Owner, Vssvariol, Urllag, Urllead, Rtvar, Hsl, Lsl, Rtspp, Rthslaiec, Rtvssaiec, Rtmg, Lrs, Vssvarpr}
@@ -59,17 +59,17 @@ admitted k z = int_le (low_of k) z && int_le z (high_of k)
 abbrev pub all : List Determinant
 all = Owner ∷ Vssvariol ∷ Urllag ∷ Urllead ∷ Rtvar ∷ Hsl ∷ Lsl ∷ Rtspp ∷ Rthslaiec ∷ Rtvssaiec ∷ Rtmg ∷ Lrs ∷ Vssvarpr ∷ []
 
--- the first determinant that passes a test
-abbrev pub first_by : (Determinant → Bool) → List Determinant → Option Determinant
-first_by f [] = None
-first_by f (k ∷ ks) = cond (f k) (Some k) (first_by f ks)
-
 -- the determinant of a number, or of a name
 abbrev pub with_number : ℕ → Option Determinant
-with_number n = first_by (λ k. nat_eq n (number_of k)) all
+with_number n = find (λ k. nat_eq n (number_of k)) all
 
 abbrev pub named : List ℕ → Option Determinant
-named bs = first_by (λ k. bytes_eq bs (name_of k)) all
+named bs = find (λ k. bytes_eq bs (name_of k)) all
+
+-- what a look-up came to
+abbrev pub found : {E : Type 0} → Result Determinant E → Option Determinant
+found (Ok k) = Some k
+found (Err e) = None
 
 -- The rule of the whole table: numbers run from 1 to the last, no two determinants share a number or a name, a figure has at most six
 -- decimals, and a range is one of stored numbers.

@@ -1,8 +1,9 @@
 // The determinants: one row for each in one table.
-ghost use Rattle.std.specs.Prelude.{◌≡◌, ◌≤◌};
-ghost use Rattle.terms.specs.Determinants.{number_of, name_of, decimals_of, low_of, high_of, missing_of, admitted, with_number, named};
+ghost use Rattle.std.specs.Prelude.{◌≡◌, ◌≤◌, Some};
+ghost use Rattle.terms.specs.Determinants.{number_of, name_of, decimals_of, low_of, high_of, missing_of, admitted, with_number, named, found};
 
-use crate::bytes::same_bytes;
+use std::error::Error;
+use std::fmt;
 
 #[derive(Clone, Copy, Debug, PartialEq, Eq)]
 pub enum Determinant {
@@ -36,7 +37,7 @@ pub enum Missing {
 
 #[derive(Clone, Copy)]
 struct Row {
-    name: &'static [u8],
+    name: &'static str,
     decimals: usize,
     low: i64,
     high: i64,
@@ -46,91 +47,91 @@ struct Row {
 // Row i has the number i + 1.
 const TABLE: [Row; 13] = [
     Row {
-        name: b"OWNER",
+        name: "OWNER",
         decimals: 0,
         low: 0,
         high: 63,
         missing: Missing::Skip,
     },
     Row {
-        name: b"VSSVARIOL",
+        name: "VSSVARIOL",
         decimals: 3,
         low: -2_000_000,
         high: 2_000_000,
         missing: Missing::Skip,
     },
     Row {
-        name: b"URLLAG",
+        name: "URLLAG",
         decimals: 3,
         low: 0,
         high: 2_000_000,
         missing: Missing::Stop,
     },
     Row {
-        name: b"URLLEAD",
+        name: "URLLEAD",
         decimals: 3,
         low: -2_000_000,
         high: 0,
         missing: Missing::Stop,
     },
     Row {
-        name: b"RTVAR",
+        name: "RTVAR",
         decimals: 3,
         low: -1_000_000,
         high: 1_000_000,
         missing: Missing::Zero,
     },
     Row {
-        name: b"HSL",
+        name: "HSL",
         decimals: 3,
         low: 0,
         high: 2_000_000,
         missing: Missing::Stop,
     },
     Row {
-        name: b"LSL",
+        name: "LSL",
         decimals: 3,
         low: 0,
         high: 2_000_000,
         missing: Missing::Stop,
     },
     Row {
-        name: b"RTSPP",
+        name: "RTSPP",
         decimals: 2,
         low: -1_000_000,
         high: 1_000_000,
         missing: Missing::Stop,
     },
     Row {
-        name: b"RTHSLAIEC",
+        name: "RTHSLAIEC",
         decimals: 2,
         low: -1_000_000,
         high: 1_000_000,
         missing: Missing::Warning,
     },
     Row {
-        name: b"RTVSSAIEC",
+        name: "RTVSSAIEC",
         decimals: 2,
         low: -1_000_000,
         high: 1_000_000,
         missing: Missing::Warning,
     },
     Row {
-        name: b"RTMG",
+        name: "RTMG",
         decimals: 3,
         low: -1_000_000,
         high: 1_000_000,
         missing: Missing::Zero,
     },
     Row {
-        name: b"LRS",
+        name: "LRS",
         decimals: 6,
         low: 0,
         high: 1_000_000,
         missing: Missing::Zero,
     },
     Row {
-        name: b"VSSVARPR",
+        name: "VSSVARPR",
         decimals: 2,
         low: 0,
         high: 1_000_000,
@@ -156,15 +157,8 @@ const ALL: [Determinant; 13] = [
 ];
 
 impl Determinant {
-    // Its number, from 1.
-    pub fn number(self) -> u32
-        ensures { result ≡ number_of self }
-    {
-        self as u32 + 1
-    }
-
     // Its name in a file.
-    pub fn name(self) -> &'static [u8]
+    pub fn name(self) -> &'static str
         ensures { result.now ≡ name_of self }
     {
         TABLE[self as usize].name
@@ -205,28 +199,64 @@ impl Determinant {
     {
         self.low() <= stored && stored <= self.high()
     }
+}
 
-    // The determinant of a number, where there is one.
-    pub fn from_number(number: u32) -> Option<Determinant>
-        ensures { result ≡ with_number number }
-    {
-        for d in &ALL {
-            if number == d.number() {
-                return Some(*d);
-            }
-        }
-        None
-    }
+// Its number, from 1.
+impl From<Determinant> for u32 {
+    ghost from_gives = { λ d n. n ≡ number_of d };
 
-    // The determinant of a name, written in capitals as in a file.
-    pub fn from_name(name: &[u8]) -> Option<Determinant>
-        ensures { result ≡ named name.now }
-    {
-        for d in &ALL {
-            if same_bytes(name, d.name()) {
-                return Some(*d);
-            }
-        }
-        None
+    fn from(determinant: Determinant) -> u32 {
+        determinant as u32 + 1
     }
 }
+
+// A number or a name that no determinant has.
+#[derive(Clone, Copy, Debug, PartialEq, Eq)]
+pub struct NoDeterminant;
+
+impl TryFrom<u32> for Determinant {
+    type Error = NoDeterminant;
+
+    ghost try_from_gives = { λ n r. found r ≡ with_number n };
+
+    fn try_from(number: u32) -> Result<Determinant, NoDeterminant> {
+        for d in &ALL {
+            if number == u32::from(*d) {
+                return Ok(*d);
+            }
+        }
+        Err(NoDeterminant)
+    }
+}
+
+// A name is written in capitals, as in a file.
+impl TryFrom<&[u8]> for Determinant {
+    type Error = NoDeterminant;
+
+    ghost try_from_gives = { λ bs r. found r ≡ named bs.now };
+
+    fn try_from(name: &[u8]) -> Result<Determinant, NoDeterminant> {
+        for d in &ALL {
+            if name == d.name().as_bytes() {
+                return Ok(*d);
+            }
+        }
+        Err(NoDeterminant)
+    }
+}
+
+impl fmt::Display for Determinant {
+    ghost output = { λ d. Some (name_of d) };
+
+    fn fmt<W: fmt::Write>(&self, f: &mut fmt::Formatter<W>) -> fmt::Result {
+        f.write_str(self.name())
+    }
+}
+
+impl fmt::Display for NoDeterminant {
+    fn fmt<W: fmt::Write>(&self, f: &mut fmt::Formatter<W>) -> fmt::Result {
+        f.write_str("no determinant has this number or name")
+    }
+}
+
+impl Error for NoDeterminant {}

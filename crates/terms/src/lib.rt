@@ -2,7 +2,6 @@
 #![tactic(auto)]
 
 pub mod answer;
-pub mod bytes;
 pub mod determinant;
 pub mod laws;
 pub mod question;
