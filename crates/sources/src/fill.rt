@@ -4,6 +4,7 @@ ghost use Rattle.sources.specs.Fills.{filled};
 ghost use Rattle.sources.specs.FillsKept.{filled_laws};
 
 use terms::answer::Answer;
+use terms::determinant::Determinant;
 use terms::question::Question;
 use terms::source::Source;
 
@@ -11,9 +12,10 @@ use terms::source::Source;
 pub fn zero_filled(determinant: u32, answer: Answer) -> Answer
     ensures { result ≡ filled determinant answer }
 {
-    match answer {
-        Answer::Null if 2 <= determinant && determinant <= 4 => Answer::Figure(0),
-        other => other,
+    match (Determinant::try_from(determinant), answer) {
+        (Ok(Determinant::Vssvariol | Determinant::Urllag | Determinant::Urllead), Answer::Null) =>
+            Answer::Figure(0),
+        _ => answer,
     }
 }
 

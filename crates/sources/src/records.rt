@@ -1,7 +1,8 @@
 // A source over a list of records.
 ghost use Rattle.std.specs.Prelude.{◌≡◌, true};
 ghost use Rattle.terms.specs.Limits.{inside};
-ghost use Rattle.terms.specs.Decisions.{Decision};
+ghost use Rattle.terms.specs.Decisions.{decide, Decision};
+ghost use Rattle.terms.specs.declared.answer.Answer.TheVariants.{NoCut};
 ghost use Rattle.sources.specs.Records.{sound_record, record_says, recorded};
 ghost use Rattle.sources.specs.RecordsKept.{recorded_laws};
 
@@ -26,8 +27,7 @@ impl Record {
     pub fn is_sound(&self) -> bool
         ensures { result ≡ sound_record self.now }
     {
-        1 <= self.determinant
-            && self.determinant <= LAST_DETERMINANT
+        (1..=LAST_DETERMINANT).contains(&self.determinant)
             && self.unit <= LAST_UNIT
             && self.day <= LAST_DAY
             && self.interval <= LAST_INTERVAL
@@ -62,6 +62,15 @@ impl<'a> RecordSource<'a> {
     {
         RecordSource { records }
     }
+
+    // What the records come to, one after the other.
+    fn decided(&self, question: Question) -> Answer
+        ensures { result ≡ decide (record_says question.determinant question.unit question.day question.interval) NoCut self.now.records.now }
+    {
+        self.records.iter().fold(Answer::NoCut, |answer, record| {
+            answer.after(record.says(question))
+        })
+    }
 }
 
 impl<'a> Source for RecordSource<'a> {
@@ -76,10 +85,6 @@ impl<'a> Source for RecordSource<'a> {
         if !question.is_inside() {
             return Answer::NoCut;
         }
-        let mut answer = Answer::NoCut;
-        for record in self.records {
-            answer = answer.after(record.says(question));
-        }
-        answer
+        self.decided(question)
     }
 }

@@ -1,6 +1,6 @@
 -- How a list of lines or records decides a question. AllByRecursion of them says of a question: nothing (NoCut), that it gives a number for
 -- another interval (Null), or the number that it gives (Figure). Assumes nothing.
-use Rattle.std.specs.Prelude.{◌≡◌, List, [], ◌∷◌, ◌++◌, ℤ, ◌≢◌}
+use Rattle.std.specs.Prelude.{◌≡◌, List, fold, ◌∷◌, ◌++◌, ℤ, ◌≢◌}
 use Rattle.std.specs.List.{AllByRecursion}
 use Rattle.terms.specs.declared.answer.Answer.{Answer}
 use Rattle.terms.specs.declared.answer.Answer.TheVariants.{NoCut, Null, Figure}
@@ -8,8 +8,7 @@ use Rattle.terms.specs.Answers.{later}
 
 -- the answer after the answer so far and what the rest of the list says
 abbrev pub decide : {X : Type 0} → (X → Answer) → Answer → List X → Answer
-decide says a [] = a
-decide says a (x ∷ xs) = decide says (later a (says x)) xs
+decide says a xs = fold (λ r x. later r (says x)) a xs
 
 -- gives no number for the interval asked
 abbrev pub Silent : Answer → Type 0

@@ -197,7 +197,7 @@ impl Determinant {
     pub fn admits(self, stored: i64) -> bool
         ensures { result ≡ admitted self stored }
     {
-        self.low() <= stored && stored <= self.high()
+        (self.low()..=self.high()).contains(&stored)
     }
 }
 

@@ -58,11 +58,9 @@ impl Question {
     pub fn is_inside(self) -> bool
         ensures { result ≡ inside self.determinant self.unit self.day self.interval }
     {
-        1 <= self.determinant
-            && self.determinant <= LAST_DETERMINANT
+        (1..=LAST_DETERMINANT).contains(&self.determinant)
             && self.unit <= LAST_UNIT
             && self.day <= LAST_DAY
-            && 1 <= self.interval
-            && self.interval <= LAST_INTERVAL
+            && (1..=LAST_INTERVAL).contains(&self.interval)
     }
 }
