@@ -1,5 +1,5 @@
 -- What a judgement tells of the answer.
-use Rattle.std.proofs.Common.{◌≡◌, ℕ, Bool, true, false, cond, ◌⊎◌, ℤ, pos, Some, None, Ok, Err, Option, unwrap_or, sym, refl, ap, ◌∙◌, inl, inr, arith}
+use Rattle.std.proofs.Common.{◌≡◌, ℕ, Bool, true, false, cond, ◌⊎◌, ℤ, pos, Some, None, Option, unwrap_or, sym, refl, ap, ◌∙◌, inl, inr, arith}
 use Rattle.terms.specs.declared.answer.Answer.{Answer}
 use Rattle.terms.specs.declared.answer.Answer.TheVariants.{NoCut, Null, Figure}
 use Rattle.terms.specs.declared.determinant.Determinant.{Determinant}
@@ -9,34 +9,10 @@ use Rattle.terms.specs.declared.determinant.Missing.TheVariants.{Skip, Zero, War
 use Rattle.terms.specs.Determinants.{missing_of, admitted}
 use Rattle.amounts.specs.Readings.{cost_in}
 use Rattle.amounts.specs.Tables.{missing, figure, cost}
-use Rattle.intervals.specs.declared.asking.Out.TheVariants.{Skip as Passes, Stop}
-use Rattle.intervals.specs.declared.fault.Fault.{Fault}
-use Rattle.intervals.specs.declared.fault.Cause.{Cause}
 use Rattle.intervals.specs.declared.fault.Cause.TheVariants.{OutOfRange}
-use Rattle.intervals.specs.declared.judge.Judgement.{Judgement}
-use Rattle.intervals.specs.declared.judge.Judgement.TheVariants.{Taken, Warned, Skipped, Stopped}
+use Rattle.intervals.specs.declared.judge.Judgement.TheVariants.{Taken, Skipped, Stopped}
 use Rattle.intervals.specs.Judgements.{wanting, judged}
-use Rattle.intervals.specs.Courses.{fault_at}
-use Rattle.intervals.specs.Askings.{answered_by, held_as}
-
--- ---- from what asking gave back to the judgement
-pub answered_held : (d : Determinant) (u : ℕ) (j : Judgement) (o : Option ℤ) → Ok o ≡ answered_by d u j → j ≡ held_as o
-answered_held d u (Taken x) o e = let h : o ≡ Some x = cc in sym (ap held_as h)
-answered_held d u Warned o e = let h : o ≡ None = cc in sym (ap held_as h)
-answered_held d u Skipped o e = cc
-answered_held d u (Stopped c) o e = cc
-
-pub answered_skip : (d : Determinant) (u : ℕ) (j : Judgement) → Err Passes ≡ answered_by d u j → j ≡ Skipped
-answered_skip d u (Taken x) e = cc
-answered_skip d u Warned e = cc
-answered_skip d u Skipped e = refl
-answered_skip d u (Stopped c) e = cc
-
-pub answered_stop : (d : Determinant) (u : ℕ) (j : Judgement) (f : Fault) → Err (Stop f) ≡ answered_by d u j → (c : Cause) × (j ≡ Stopped c) × (f ≡ fault_at c d u)
-answered_stop d u (Taken x) f e = absurd (let z : ◌≡◌ {A = ℕ} 0 1 = cc in let b : ⊥ = omega arith in b)
-answered_stop d u Warned f e = absurd (let z : ◌≡◌ {A = ℕ} 0 1 = cc in let b : ⊥ = omega arith in b)
-answered_stop d u Skipped f e = absurd (let z : ◌≡◌ {A = ℕ} 0 1 = cc in let b : ⊥ = omega arith in b)
-answered_stop d u (Stopped c) f e = (c, refl, (let h : f ≡ fault_at c d u = cc in h))
+use Rattle.intervals.specs.Askings.{held_as}
 
 -- ---- a number that is there
 held_number : (x : ℤ) (b : Bool) (o : Option ℤ) → cond b (Taken x) (Stopped OutOfRange) ≡ held_as o → (o ≡ Some x) × (b ≡ true)

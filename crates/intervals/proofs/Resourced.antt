@@ -1,5 +1,5 @@
 -- The asking of one Resource, as its loop goes: one more question, a question that ends it, and what was kept at its end.
-use Rattle.std.proofs.Common.{◌≡◌, ℕ, zero, suc, ◌+◌, ◌<◌, true, false, List, length, get_or, drop, ℤ, pos, nat_abs, Some, None, Ok, Err, Option, sym, refl, ap, ◌∙◌, inl, inr, arith}
+use Rattle.std.proofs.Common.{◌≡◌, ℕ, zero, suc, ◌+◌, ◌<◌, true, false, List, length, get_or, drop, ℤ, pos, nat_abs, Some, None, Ok, Option, sym, refl, ap, ◌∙◌, inl, inr, arith}
 use Rattle.std.proofs.lemmas.Bool.{or_left, or_right, or_from, and_from}
 use Rattle.terms.specs.declared.determinant.Determinant.{Determinant}
 use Rattle.terms.specs.declared.determinant.Determinant.TheVariants.{Owner, Vssvariol, Urllag, Urllead, Rtvar, Hsl, Lsl, Rtspp, Rthslaiec, Rtvssaiec, Rtmg}
@@ -9,56 +9,50 @@ use Rattle.terms.specs.Sources.{Table}
 use Rattle.amounts.specs.Readings.{cost_in, ranged}
 use Rattle.amounts.specs.Tables.{missing, figure, cost, answer, at, skipped, readings_at}
 use Rattle.amounts.proofs.Ranged.{admitted_sized}
-use Rattle.intervals.specs.declared.asking.Out.{Out}
-use Rattle.intervals.specs.declared.asking.Out.TheVariants.{Skip as Passes, Stop}
-use Rattle.intervals.specs.declared.fault.Fault.{Fault}
+use Rattle.intervals.specs.declared.fault.Cause.{Cause}
+use Rattle.intervals.specs.declared.judge.Judgement.{Judgement}
+use Rattle.intervals.specs.declared.judge.Judgement.TheVariants.{Skipped, Stopped}
 use Rattle.intervals.specs.declared.warning.Warning.{Warning}
-use Rattle.intervals.specs.Courses.{judged_at, rows_for, walk, of_resource, written, after}
-use Rattle.intervals.specs.Askings.{answered_by, ended_by, after_by, held_as, Kept, Passed, Reads, number_at, gathered, Found}
-use Rattle.intervals.specs.declared.asking.Asked.{Asked}
+use Rattle.intervals.specs.Courses.{fault_at, judged_at, rows_for, walk, of_resource, written, after}
+use Rattle.intervals.specs.Askings.{held_as, Kept, Passed, place_of, figure_at, number_at, gathered, asked_of, Reads, Found, Asks}
+use Rattle.std.specs.Option.{option_map}
+use Rattle.intervals.specs.declared.asking.Figures.{Figures}
 use Rattle.intervals.proofs.Walked.{walk_more, walk_skips, walk_stops}
-use Rattle.intervals.proofs.Judging.{Number, answered_held, answered_skip, answered_stop, number_kept, cost_kept, there_kept, skips, skip_rows}
+use Rattle.intervals.proofs.Judging.{Number, number_kept, cost_kept, there_kept, skips, skip_rows}
 
-module _ (t : Table) (y i u : ℕ) (ws : List Warning) (n k : ℕ) (lt : k < 11) (d : Determinant) (is : d ≡ get_or of_resource k Owner) where
-  pub held_here : (o : Option ℤ) → Ok o ≡ answered_by d u (judged_at t y i d u) → judged_at t y i (get_or of_resource k Owner) u ≡ held_as o
-  held_here o e = ap (λ x. judged_at t y i x u) (sym is) ∙ answered_held d u (judged_at t y i d u) o e
+-- the k-th question, about d: j is what its answer means
+module _ (t : Table) (y i u : ℕ) (ws : List Warning) (n k : ℕ) (lt : k < 11) (d : Determinant) (is : d ≡ get_or of_resource k Owner) (j : Judgement) (said : j ≡ judged_at t y i d u) where
+  pub here : judged_at t y i (get_or of_resource k Owner) u ≡ j
+  here = ap (λ x. judged_at t y i x u) (sym is) ∙ sym said
 
-  pub goes_on : (vs : List Warning) (m : ℕ) (o : Option ℤ) → Ok o ≡ answered_by d u (judged_at t y i d u) → m ≡ n + length (rows_for y i u d (judged_at t y i d u)) → vs ≡ written ws n (rows_for y i u d (judged_at t y i d u)) → after vs m (walk t y i u (drop (k + 1) of_resource)) ≡ after ws n (walk t y i u (drop k of_resource))
-  goes_on vs m o e count rows =
-      let j = answered_held d u (judged_at t y i d u) o e in
-      let same : rows_for y i u d (judged_at t y i d u) ≡ rows_for y i u (get_or of_resource k Owner) (held_as o) = ap (rows_for y i u d) j ∙ ap (λ x. rows_for y i u x (held_as o)) is in
-      ap (λ a. after a m (walk t y i u (drop (k + 1) of_resource))) (rows ∙ ap (written ws n) same)
-      ∙ ap (λ a. after (written ws n (rows_for y i u (get_or of_resource k Owner) (held_as o))) a (walk t y i u (drop (k + 1) of_resource))) (count ∙ ap (λ rs. n + length rs) same)
-      ∙ sym (walk_more t y i u ws n k lt o (held_here o e))
+  module _ (vs : List Warning) (m : ℕ) (count : m ≡ n + length (rows_for y i u d j)) (rows : vs ≡ written ws n (rows_for y i u d j)) where
+    pub goes_on : (o : Option ℤ) → j ≡ held_as o → after vs m (walk t y i u (drop (k + 1) of_resource)) ≡ after ws n (walk t y i u (drop k of_resource))
+    goes_on o e =
+        let same : rows_for y i u d j ≡ rows_for y i u (get_or of_resource k Owner) (held_as o) = ap (rows_for y i u d) e ∙ ap (λ x. rows_for y i u x (held_as o)) is in
+        ap (λ a. after a m (walk t y i u (drop (k + 1) of_resource))) (rows ∙ ap (written ws n) same)
+        ∙ ap (λ a. after (written ws n (rows_for y i u (get_or of_resource k Owner) (held_as o))) a (walk t y i u (drop (k + 1) of_resource))) (count ∙ ap (λ rs. n + length rs) same)
+        ∙ sym (walk_more t y i u ws n k lt o (here ∙ e))
 
-  module _ (vs : List Warning) (m : ℕ) (count : m ≡ n + length (rows_for y i u d (judged_at t y i d u))) (rows : vs ≡ written ws n (rows_for y i u d (judged_at t y i d u))) where
-    passes : Err Passes ≡ answered_by d u (judged_at t y i d u) → record { warnings = vs; noted = m; fault = None } ≡ after ws n (walk t y i u (drop k of_resource))
+    pub passes : j ≡ Skipped → record { warnings = vs; noted = m; fault = None } ≡ after ws n (walk t y i u (drop k of_resource))
     passes e =
-        let j = answered_skip d u (judged_at t y i d u) e in
-        let a : vs ≡ ws = rows ∙ ap (λ x. written ws n (rows_for y i u d x)) j in
-        let b : m ≡ n = let h = count ∙ ap (λ x. n + length (rows_for y i u d x)) j in omega arith in
-        let w = walk_skips t y i u ws n k lt (ap (λ x. judged_at t y i x u) (sym is) ∙ j) in
+        let a : vs ≡ ws = rows ∙ ap (λ x. written ws n (rows_for y i u d x)) e in
+        let b : m ≡ n = let h = count ∙ ap (λ x. n + length (rows_for y i u d x)) e in omega arith in
+        let w = walk_skips t y i u ws n k lt (here ∙ e) in
         cc
 
-    stops : (f : Fault) → Err (Stop f) ≡ answered_by d u (judged_at t y i d u) → record { warnings = vs; noted = m; fault = Some f } ≡ after ws n (walk t y i u (drop k of_resource))
-    stops f e =
-        let s = answered_stop d u (judged_at t y i d u) f e in
-        let j = s.1 in
-        let a : vs ≡ ws = rows ∙ ap (λ x. written ws n (rows_for y i u d x)) j in
-        let b : m ≡ n = let h = count ∙ ap (λ x. n + length (rows_for y i u d x)) j in omega arith in
-        let w = walk_stops t y i u ws n k lt s.0 (ap (λ x. judged_at t y i x u) (sym is) ∙ j) in
-        let q = s.2 in
+    pub stops : (c : Cause) → j ≡ Stopped c → record { warnings = vs; noted = m; fault = Some (fault_at c d u) } ≡ after ws n (walk t y i u (drop k of_resource))
+    stops c e =
+        let a : vs ≡ ws = rows ∙ ap (λ x. written ws n (rows_for y i u d x)) e in
+        let b : m ≡ n = let h = count ∙ ap (λ x. n + length (rows_for y i u d x)) e in omega arith in
+        let w = walk_stops t y i u ws n k lt c (here ∙ e) in
+        let q = is in
         cc
-
-    pub ends : (out : Out) → Err out ≡ answered_by d u (judged_at t y i d u) → after_by vs m (ended_by out) ≡ after ws n (walk t y i u (drop k of_resource))
-    ends Passes e = passes e
-    ends (Stop f) e = stops f e
 
   -- a Resource is passed over for its owner or its instruction; its owner is in range all the same
-  passed_at : (xs : List (Option ℤ)) → Kept t y i u k xs → Err Passes ≡ answered_by d u (judged_at t y i d u) → Passed t y i u
+  pub passed_at : (xs : List (Option ℤ)) → Kept t y i u k xs → j ≡ Skipped → Passed t y i u
   unfolding of_resource
   passed_at xs kept e =
-      let s = skips d (answer t y i d u) (answered_skip d u (judged_at t y i d u) e) in
+      let s = skips d (answer t y i d u) (sym said ∙ e) in
       elim (skip_rows d s.0) [
         | inl o ↦ owner_missing (ap (λ x. missing (answer t y i x u)) (sym o) ∙ s.1) (ap (λ x. figure (answer t y i x u)) (sym o) ∙ s.2)
         | inr v ↦ instruction_missing k (sym is ∙ v) kept (ap (λ x. missing (answer t y i x u)) (sym v) ∙ s.1)
@@ -74,22 +68,18 @@ module _ (t : Table) (y i u : ℕ) (ws : List Warning) (n k : ℕ) (lt : k < 11)
           let h = admitted_sized Owner (at t y i Owner u) o.within in
           record { missing = or_right _ _ p; owner = omega arith }
 
-  pub reads_at : (xs : List (Option ℤ)) (out : Out) → Kept t y i u k xs → Err out ≡ answered_by d u (judged_at t y i d u) → Reads t y i u (ended_by out)
-  reads_at xs Passes kept e = passed_at xs kept e
-  reads_at xs (Stop f) kept e = tt
-
 -- ---- what was kept of all eleven
 module _ (t : Table) (y i u : ℕ) (xs : List (Option ℤ)) (kept : Kept t y i u 11 xs) where
-  number : (d : Determinant) (k : ℕ) → k < 11 → get_or of_resource k Owner ≡ d → (missing_of d ≡ Warns → ⊥) → Number d (answer t y i d u) (number_at xs k)
-  number d k lt is ne = number_kept d (get_or xs k None) (answer t y i d u) ne (ap (λ x. judged_at t y i x u) (sym is) ∙ kept k lt)
+  number : (d : Determinant) → place_of d < 11 → get_or of_resource (place_of d) Owner ≡ d → (missing_of d ≡ Warns → ⊥) → Number d (answer t y i d u) (number_at xs d)
+  number d lt is ne = number_kept d (figure_at xs d) (answer t y i d u) ne (ap (λ x. judged_at t y i x u) (sym is) ∙ kept (place_of d) lt)
 
-  costly : (d : Determinant) (k : ℕ) → k < 11 → get_or of_resource k Owner ≡ d → missing_of d ≡ Warns → (get_or xs k None ≡ cost (answer t y i d u)) × (cost_in d (cost (answer t y i d u)) ≡ true)
-  costly d k lt is w = cost_kept d (get_or xs k None) (answer t y i d u) w (ap (λ x. judged_at t y i x u) (sym is) ∙ kept k lt)
+  costly : (d : Determinant) → place_of d < 11 → get_or of_resource (place_of d) Owner ≡ d → missing_of d ≡ Warns → (figure_at xs d ≡ cost (answer t y i d u)) × (cost_in d (cost (answer t y i d u)) ≡ true)
+  costly d lt is w = cost_kept d (figure_at xs d) (answer t y i d u) w (ap (λ x. judged_at t y i x u) (sym is) ∙ kept (place_of d) lt)
 
-  pub owner_is : (number_at xs 0 ≡ at t y i Owner u) × (nat_abs (number_at xs 0) < 64)
+  pub owner_is : (number_at xs Owner ≡ at t y i Owner u) × (nat_abs (number_at xs Owner) < 64)
   unfolding of_resource
   owner_is =
-      let o = number Owner 0 (omega arith) refl (λ w. let z : ◌≡◌ {A = ℕ} 0 1 = cc in omega arith) in
+      let o = number Owner (omega arith) refl (λ w. let z : ◌≡◌ {A = ℕ} 0 1 = cc in omega arith) in
       let h = admitted_sized Owner (at t y i Owner u) o.within in
       let e = ap nat_abs o.value in
       (o.value, omega arith)
@@ -103,26 +93,30 @@ module _ (t : Table) (y i u : ℕ) (xs : List (Option ℤ)) (kept : Kept t y i u
   pub readings_are : (gathered xs ≡ readings_at t y i u) × (ranged (readings_at t y i u) ≡ true)
   unfolding of_resource readings_at ranged
   readings_are =
-      let v = number Vssvariol 1 (omega arith) refl (λ w. let z : ◌≡◌ {A = ℕ} 0 1 = cc in omega arith) in
-      let g = number Urllag 2 (omega arith) refl (λ w. let z : ◌≡◌ {A = ℕ} 0 1 = cc in omega arith) in
-      let l = number Urllead 3 (omega arith) refl (λ w. let z : ◌≡◌ {A = ℕ} 0 1 = cc in omega arith) in
-      let r = number Rtvar 4 (omega arith) refl (λ w. let z : ◌≡◌ {A = ℕ} 0 1 = cc in omega arith) in
-      let h = number Hsl 5 (omega arith) refl (λ w. let z : ◌≡◌ {A = ℕ} 0 1 = cc in omega arith) in
-      let o = number Lsl 6 (omega arith) refl (λ w. let z : ◌≡◌ {A = ℕ} 0 1 = cc in omega arith) in
-      let p = number Rtspp 7 (omega arith) refl (λ w. let z : ◌≡◌ {A = ℕ} 0 1 = cc in omega arith) in
-      let f = costly Rthslaiec 8 (omega arith) refl refl in
-      let m = costly Rtvssaiec 9 (omega arith) refl refl in
-      let n = number Rtmg 10 (omega arith) refl (λ w. let z : ◌≡◌ {A = ℕ} 0 1 = cc in omega arith) in (
+      let v = number Vssvariol (omega arith) refl (λ w. let z : ◌≡◌ {A = ℕ} 0 1 = cc in omega arith) in
+      let g = number Urllag (omega arith) refl (λ w. let z : ◌≡◌ {A = ℕ} 0 1 = cc in omega arith) in
+      let l = number Urllead (omega arith) refl (λ w. let z : ◌≡◌ {A = ℕ} 0 1 = cc in omega arith) in
+      let r = number Rtvar (omega arith) refl (λ w. let z : ◌≡◌ {A = ℕ} 0 1 = cc in omega arith) in
+      let h = number Hsl (omega arith) refl (λ w. let z : ◌≡◌ {A = ℕ} 0 1 = cc in omega arith) in
+      let o = number Lsl (omega arith) refl (λ w. let z : ◌≡◌ {A = ℕ} 0 1 = cc in omega arith) in
+      let p = number Rtspp (omega arith) refl (λ w. let z : ◌≡◌ {A = ℕ} 0 1 = cc in omega arith) in
+      let f = costly Rthslaiec (omega arith) refl refl in
+      let m = costly Rtvssaiec (omega arith) refl refl in
+      let n = number Rtmg (omega arith) refl (λ w. let z : ◌≡◌ {A = ℕ} 0 1 = cc in omega arith) in (
         (let a = v.value in let b = g.value in let c = l.value in let e = r.value in let j = h.value in let k = o.value in let q = p.value in let s = f.0 in let w = m.0 in let x = n.value in cc),
         and_from _ _ (and_from _ _ v.within (and_from _ _ g.within (and_from _ _ l.within r.within)))
             (and_from _ _ h.within (and_from _ _ o.within (and_from _ _ p.within (and_from _ _ f.1 (and_from _ _ m.1 n.within))))),
       )
 
-  pub found : (a : Asked) → a.owner ≡ nat_abs (number_at xs 0) → a.readings ≡ gathered xs → Found t y i u a
-  found a e f = record {
+  pub found : Found t y i u (asked_of xs)
+  found = record {
     there = there_is;
-    owner = e ∙ ap nat_abs owner_is.0;
+    owner = ap nat_abs owner_is.0;
     small = let h = owner_is.1 in omega arith;
-    readings = f ∙ readings_are.0;
+    readings = readings_are.0;
     within = readings_are.1;
   }
+
+pub asks : (t : Table) (y i u : ℕ) (o : Option Figures) → Reads t y i u (Ok o) → Asks t y i u (Ok (option_map (λ f. asked_of f.places) o))
+asks t y i u None passed = passed
+asks t y i u (Some f) kept = found t y i u f.places kept

@@ -1,5 +1,5 @@
 -- The course of the asking, one question after the other.
-use Rattle.std.proofs.Common.{◌≡◌, ℕ, suc, ◌+◌, ◌<◌, ◌≤◌, ◌≢◌, List, [], ◌∷◌, ◌++◌, length, get_or, drop, set, ℤ, Some, None, Option, sym, refl, ap, ◌∙◌, add-zero, arith, below_more}
+use Rattle.std.proofs.Common.{◌≡◌, ℕ, zero, suc, ◌+◌, ◌<◌, ◌≤◌, ◌≢◌, List, [], ◌∷◌, ◌++◌, length, get_or, drop, set, ℤ, Some, None, Option, sym, refl, ap, ◌∙◌, add-zero, arith, below_more}
 use Rattle.std.proofs.lemmas.List.{at_drop_more, at_drop_all, length-append, get_or-set_same, get_or-set_other}
 use Rattle.std.proofs.lemmas.Bool.{cond_both}
 use Rattle.terms.specs.declared.determinant.Determinant.{Determinant}
@@ -10,7 +10,7 @@ use Rattle.intervals.specs.declared.judge.Judgement.{Judgement}
 use Rattle.intervals.specs.declared.judge.Judgement.TheVariants.{Taken, Warned, Skipped, Stopped}
 use Rattle.intervals.specs.declared.warning.Warning.{Warning}
 use Rattle.intervals.specs.Courses.{Course, fault_at, before, opens_hour, rows_for, judged_at, step, walk, resource, of_resource, written, after}
-use Rattle.intervals.specs.Askings.{held_as, Kept}
+use Rattle.intervals.specs.Askings.{held_as, Kept, place_of}
 
 pub written_append : (ws : List Warning) (n : ℕ) (rs ss : List Warning) → written ws n (rs ++ ss) ≡ written (written ws n rs) (n + length rs) ss
 written_append ws n [] ss = ap (λ m. written ws m ss) (sym (add-zero n))
@@ -59,9 +59,9 @@ module _ (t : Table) (y i u : ℕ) where
         ap (after ws n) (walk_here ∙ ap (λ j. step t y i u (get_or of_resource k Owner) j (walk t y i u (drop (k + 1) of_resource))) e)
         ∙ ap (λ m. record { warnings = ws; noted = m; fault = Some (fault_at c (get_or of_resource k Owner) u) }) (add-zero n)
 
-    pub kept_more : (xs : List (Option ℤ)) (o : Option ℤ) → length xs ≡ 11 → judged_at t y i (get_or of_resource k Owner) u ≡ held_as o → Kept t y i u k xs → Kept t y i u (k + 1) (set xs k o)
+    pub kept_more : (xs : List (Option ℤ)) (o : Option ℤ) → length xs ≡ 13 → judged_at t y i (get_or of_resource k Owner) u ≡ held_as o → Kept t y i u k xs → Kept t y i u (k + 1) (set xs k o)
     kept_more xs o long e kept =
-        let within : k < length xs = rw long lt in
+        let within : k < length xs = rw long (omega arith) in
         below_more (λ j. judged_at t y i (get_or of_resource j Owner) u ≡ held_as (get_or (set xs k o) j None)) k
         (λ j h. let ne : j ≢ k = λ s. omega arith in rw (get_or-set_other xs k j o None ne) (kept j h))
         (rw (get_or-set_same xs k o None within) e)
@@ -73,3 +73,19 @@ module _ (t : Table) (y i u : ℕ) where
   pub walk_ends : (ws : List Warning) (n k : ℕ) → 11 ≤ k → after ws n (walk t y i u (drop k of_resource)) ≡ record { warnings = ws; noted = n; fault = None }
   unfolding of_resource
   walk_ends ws n k le = ap (after ws n) (at_drop_all (walk t y i u) of_resource k le) ∙ ap (λ m. record { warnings = ws; noted = m; fault = None }) (add-zero n)
+
+-- a determinant's figure stands at the place of its question
+pub place_is : (k : ℕ) → k < 11 → place_of (get_or of_resource k Owner) ≡ k
+unfolding of_resource
+place_is zero lt = refl
+place_is (suc zero) lt = refl
+place_is (suc (suc zero)) lt = refl
+place_is (suc (suc (suc zero))) lt = refl
+place_is (suc (suc (suc (suc zero)))) lt = refl
+place_is (suc (suc (suc (suc (suc zero))))) lt = refl
+place_is (suc (suc (suc (suc (suc (suc zero)))))) lt = refl
+place_is (suc (suc (suc (suc (suc (suc (suc zero))))))) lt = refl
+place_is (suc (suc (suc (suc (suc (suc (suc (suc zero)))))))) lt = refl
+place_is (suc (suc (suc (suc (suc (suc (suc (suc (suc zero))))))))) lt = refl
+place_is (suc (suc (suc (suc (suc (suc (suc (suc (suc (suc zero)))))))))) lt = refl
+place_is (suc (suc (suc (suc (suc (suc (suc (suc (suc (suc (suc k))))))))))) lt = absurd (omega arith)

@@ -1,12 +1,11 @@
 -- What asking comes to, as the code has it. Assumes nothing.
-use Rattle.std.specs.Prelude.{◌≡◌, ℕ, ◌*◌, ◌<◌, ◌≤◌, true, false, List, [], ◌∷◌, length, ℤ, pos, Some, None, Ok, Err, Option, Result, slice_index, slice_index_or, unsigned_abs}
+use Rattle.std.specs.Prelude.{◌≡◌, ℕ, ◌-◌, ◌*◌, ◌<◌, ◌≤◌, true, false, List, [], ◌∷◌, length, ℤ, pos, Some, None, Ok, Err, Option, Result, slice_index, slice_index_or, unsigned_abs}
 use Rattle.terms.specs.declared.determinant.Determinant.{Determinant}
 use Rattle.intervals.specs.declared.asking.Asked.{Asked}
-use Rattle.intervals.specs.declared.asking.Out.{Out}
-use Rattle.intervals.specs.declared.asking.Out.TheVariants.{Skip, Stop}
+use Rattle.intervals.specs.declared.asking.Figures.{Figures}
 use Rattle.intervals.specs.declared.judge.Judgement.{Judgement}
-use Rattle.intervals.specs.declared.judge.Judgement.TheVariants.{Taken, Warned, Skipped, Stopped}
-use Rattle.terms.specs.declared.determinant.Determinant.TheVariants.{Owner, Lrs, Vssvarpr}
+use Rattle.intervals.specs.declared.judge.Judgement.TheVariants.{Taken, Warned}
+use Rattle.terms.specs.declared.determinant.Determinant.TheVariants.{Owner, Vssvariol, Urllag, Urllead, Rtvar, Hsl, Lsl, Rtspp, Rthslaiec, Rtvssaiec, Rtmg, Lrs, Vssvarpr}
 use Rattle.terms.specs.Sources.{Table}
 use Rattle.std.specs.Option.{unwrap_or}
 use Rattle.amounts.specs.declared.readings.Readings.{Readings}
@@ -15,19 +14,9 @@ use Rattle.amounts.specs.Tables.{skipped, at, readings_at}
 use Rattle.amounts.specs.Traces.{entities}
 use Rattle.intervals.specs.declared.fault.Fault.{Fault}
 use Rattle.intervals.specs.declared.warning.Warning.{Warning}
-use Rattle.terms.specs.Determinants.{admitted}
-use Rattle.intervals.specs.Courses.{clear, halted, fault_at, judged_at, walk, of_resource, next, shares_to, summed, After}
+use Rattle.terms.specs.Determinants.{number_of, admitted}
+use Rattle.intervals.specs.Courses.{clear, halted, judged_at, walk, of_resource, next, shares_to, summed, After}
 use Rattle.amounts.specs.Sums.{add_to}
-
-abbrev pub answered_by : Determinant → ℕ → Judgement → Result (Option ℤ) Out
-answered_by d u (Taken x) = Ok (Some x)
-answered_by d u Warned = Ok None
-answered_by d u Skipped = Err Skip
-answered_by d u (Stopped c) = Err (Stop (fault_at c d u))
-
-abbrev pub ended_by : Out → Result (Option (List (Option ℤ))) Fault
-ended_by Skip = Ok None
-ended_by (Stop f) = Err f
 
 abbrev pub fault_in : {X : Type 0} → Result X Fault → Option Fault
 fault_in (Ok x) = None
@@ -50,28 +39,38 @@ module _ (t : Table) (y i : ℕ) where
     pub missing : skipped t y i u ≡ true
     pub owner : unsigned_abs (at t y i Owner u) < entities
 
-  abbrev pub Reads : ℕ → Result (Option (List (Option ℤ))) Fault → Type 0
-  Reads u (Ok (Some xs)) = Kept u 11 xs
+  abbrev pub Reads : ℕ → Result (Option Figures) Fault → Type 0
+  Reads u (Ok (Some f)) = Kept u 11 f.places
   Reads u (Ok None) = Passed u
   Reads u (Err f) = Unit {0}
 
-abbrev pub number_at : List (Option ℤ) → ℕ → ℤ
-number_at xs k = unwrap_or (slice_index_or xs k None) (pos 0)
+-- where the figure of a determinant stands
+abbrev pub place_of : Determinant → ℕ
+place_of d = number_of d - 1
+
+abbrev pub figure_at : List (Option ℤ) → Determinant → Option ℤ
+figure_at xs d = slice_index_or xs (place_of d) None
+
+abbrev pub number_at : List (Option ℤ) → Determinant → ℤ
+number_at xs d = unwrap_or (figure_at xs d) (pos 0)
 
 -- the readings among what was kept of a Resource's determinants
 abbrev pub gathered : List (Option ℤ) → Readings
 gathered xs = record {
-  vssvariol = number_at xs 1;
-  urllag = number_at xs 2;
-  urllead = number_at xs 3;
-  rtvar = number_at xs 4;
-  hsl = number_at xs 5;
-  lsl = number_at xs 6;
-  rtspp = number_at xs 7;
-  rthslaiec = slice_index_or xs 8 None;
-  rtvssaiec = slice_index_or xs 9 None;
-  rtmg = number_at xs 10;
+  vssvariol = number_at xs Vssvariol;
+  urllag = number_at xs Urllag;
+  urllead = number_at xs Urllead;
+  rtvar = number_at xs Rtvar;
+  hsl = number_at xs Hsl;
+  lsl = number_at xs Lsl;
+  rtspp = number_at xs Rtspp;
+  rthslaiec = figure_at xs Rthslaiec;
+  rtvssaiec = figure_at xs Rtvssaiec;
+  rtmg = number_at xs Rtmg;
 }
+
+abbrev pub asked_of : List (Option ℤ) → Asked
+asked_of xs = record { owner = unsigned_abs (number_at xs Owner); readings = gathered xs }
 
 module _ (t : Table) (y i : ℕ) where
   -- a Resource that is not passed over: its owner and its readings, each in its range

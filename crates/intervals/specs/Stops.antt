@@ -13,8 +13,8 @@ cause_number OutOfRange = 15
 cause_number Shares = 16
 
 abbrev pub stop_at : ℕ → ℕ → ℕ → Fault → Stop
-stop_at y i n f = record { cause = f.cause; determinant = f.determinant; unit = f.unit; day = y; interval = i; warnings = n }
+stop_at y i n f = record { fault = f; slot = record { day = y; interval = i }; warnings = n }
 
 -- the values are determinant, unit, day, interval and the number of warning rows written
 abbrev pub numbered : {X : Type 0} → Stop → Told X
-numbered s = refuse (cause_number s.cause) (number_of s.determinant ∷ s.unit ∷ s.day ∷ s.interval ∷ s.warnings ∷ [])
+numbered s = refuse (cause_number s.fault.cause) (number_of s.fault.determinant ∷ s.fault.unit ∷ s.slot.day ∷ s.slot.interval ∷ s.warnings ∷ [])

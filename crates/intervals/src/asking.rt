@@ -1,15 +1,15 @@
 // Asking a source, determinant after determinant.
-ghost use Rattle.std.specs.Prelude.{◌≡◌, ℕ, ◌+◌, ◌<◌, ◌≤◌, length, slice_index_or, slice_set, unsigned_abs};
-ghost use Rattle.intervals.specs.Courses.{judged_at, rows_for, resource, of_resource, written, after};
-ghost use Rattle.intervals.specs.Askings.{answered_by, ended_by, after_by, Reads, number_at, gathered, Asks};
+ghost use Rattle.std.specs.Prelude.{◌≡◌, ◌+◌, ◌≤◌, length, slice_set};
+ghost use Rattle.intervals.specs.Courses.{judged_at, rows_for, resource, written, after};
+ghost use Rattle.intervals.specs.Askings.{after_by, Reads, place_of, figure_at, number_at, gathered, asked_of, Asks};
 
-use crate::fault::{Cause, Fault};
+use crate::fault::Fault;
 use crate::judge::{Judgement, judge};
-use crate::slot::Slot;
+use crate::notes::Notes;
 use crate::warning::Warning;
 use amounts::readings::Readings;
 use terms::determinant::Determinant;
-use terms::question::Question;
+use terms::question::{Question, Slot};
 use terms::source::Source;
 
 // In asking order.
@@ -27,6 +27,13 @@ const OF_RESOURCE: [Determinant; 11] = [
     Determinant::Rtmg,
 ];
 
+// What an interval is worked from: a source, and which interval of which day.
+#[derive_where(Clone, Copy)]
+pub(crate) struct Inquiry<'a, S> {
+    pub(crate) source: &'a S,
+    pub(crate) slot: Slot,
+}
+
 // The owner of a Resource and its readings.
 #[derive(Clone, Copy)]
 pub(crate) struct Asked {
@@ -34,182 +41,128 @@ pub(crate) struct Asked {
     pub(crate) readings: Readings,
 }
 
-// Why a question gives no figure to go on with.
+// What is known of a Resource's determinants: the figure of each at its place, and none for a missing cost.
 #[derive(Clone, Copy)]
-pub(crate) enum Out {
-    Skip,
-    Stop(Fault),
+struct Figures {
+    places: [Option<i64>; 13],
 }
 
-pub(crate) fn ask<S: Source>(
-    source: &S,
-    determinant: Determinant,
-    unit: u32,
-    slot: Slot,
-) -> Judgement
-    ensures { result ≡ judged_at (S.Source.table source.now) slot.day slot.interval determinant unit }
-{
-    let question = Question {
-        determinant: determinant.number(),
-        unit,
-        day: slot.day,
-        interval: slot.interval,
-    };
-    judge(determinant, source.ask(question))
-}
-
-// Writes a row, where the list has one there.
-fn put_row(warnings: &mut [Warning], at: usize, row: Warning)
-    ensures { warnings.new ≡ slice_set warnings.old at row }
-{
-    if at < warnings.len() {
-        warnings[at] = row;
+impl Figures {
+    fn put(&mut self, determinant: Determinant, figure: Option<i64>)
+        ensures { self.new.places ≡ slice_set self.old.places (place_of determinant) figure }
+    {
+        self.places[determinant as usize] = figure;
     }
-}
 
-// Writes the warning row of a missing cost where the interval is the first of its hour.
-fn note(
-    determinant: Determinant,
-    resource: u32,
-    slot: Slot,
-    noted: &mut usize,
-    warnings: &mut [Warning],
-)
-    requires { noted.old ≤ 5000 }
-    ensures count { noted.new ≡ noted.old + length (rows_for slot.day slot.interval resource determinant Judgement.Warned) }
-    ensures rows { warnings.new ≡ written warnings.old noted.old (rows_for slot.day slot.interval resource determinant Judgement.Warned) }
-{
-    if slot.interval % 4 == 1 {
-        let row = Warning {
-            determinant: determinant.number(),
-            resource,
-            day: slot.day,
-            hour: slot.interval / 4 + 1,
-        };
-        put_row(warnings, *noted, row);
-        *noted += 1;
+    fn figure(&self, determinant: Determinant) -> Option<i64>
+        ensures { result ≡ figure_at self.now.places determinant }
+    {
+        self.places[determinant as usize]
     }
-}
 
-// The figure taken, or none for a missing cost, which is noted.
-fn ask_noting<S: Source>(
-    source: &S,
-    determinant: Determinant,
-    resource: u32,
-    slot: Slot,
-    noted: &mut usize,
-    warnings: &mut [Warning],
-) -> Result<Option<i64>, Out>
-    requires { noted.old ≤ 5000 }
-    ensures value { result ≡ answered_by determinant resource (judged_at (S.Source.table source.now) slot.day slot.interval determinant resource) }
-    ensures count { noted.new ≡ noted.old + length (rows_for slot.day slot.interval resource determinant (judged_at (S.Source.table source.now) slot.day slot.interval determinant resource)) }
-    ensures rows { warnings.new ≡ written warnings.old noted.old (rows_for slot.day slot.interval resource determinant (judged_at (S.Source.table source.now) slot.day slot.interval determinant resource)) }
-{
-    match ask(source, determinant, resource, slot) {
-        Judgement::Taken(x) => Ok(Some(x)),
-        Judgement::Warned => {
-            note(determinant, resource, slot, noted, warnings);
-            Ok(None)
-        }
-        Judgement::Skipped => Err(Out::Skip),
-        Judgement::Stopped(cause) => Err(Out::Stop(Fault {
-            cause,
-            determinant,
-            unit: resource,
-        })),
+    fn number(&self, determinant: Determinant) -> i64
+        ensures { result ≡ number_at self.now.places determinant }
+    {
+        self.figure(determinant).unwrap_or(0)
     }
-}
 
-fn ended(out: Out) -> Result<Option<[Option<i64>; 11]>, Fault>
-    ensures { result ≡ ended_by out }
-{
-    match out {
-        Out::Skip => Ok(None),
-        Out::Stop(fault) => Err(fault),
-    }
-}
-
-fn asked_at(k: usize) -> Determinant
-    requires { k < 11 }
-    ensures { result ≡ slice_index_or of_resource k Determinant.Owner }
-{
-    OF_RESOURCE[k]
-}
-
-// What the determinants of one Resource give, in asking order; none where it is passed over.
-fn ask_resource<S: Source>(
-    source: &S,
-    unit: u32,
-    slot: Slot,
-    noted: &mut usize,
-    warnings: &mut [Warning],
-) -> Result<Option<[Option<i64>; 11]>, Fault>
-    requires { noted.old ≤ 4000 }
-    ensures course { after_by warnings.new noted.new result ≡ after warnings.old noted.old (resource (S.Source.table source.now) slot.day slot.interval unit) }
-    ensures few { noted.new ≤ noted.old + 11 }
-    ensures reads { Reads (S.Source.table source.now) slot.day slot.interval unit result }
-{
-    let mut taken = [None; 11];
-    for k in 0..11 {
-        match ask_noting(source, asked_at(k), unit, slot, noted, warnings) {
-            Ok(figure) => taken[k] = figure,
-            Err(out) => return ended(out),
+    fn readings(&self) -> Readings
+        ensures { result ≡ gathered self.now.places }
+    {
+        Readings {
+            vssvariol: self.number(Determinant::Vssvariol),
+            urllag: self.number(Determinant::Urllag),
+            urllead: self.number(Determinant::Urllead),
+            rtvar: self.number(Determinant::Rtvar),
+            hsl: self.number(Determinant::Hsl),
+            lsl: self.number(Determinant::Lsl),
+            rtspp: self.number(Determinant::Rtspp),
+            rthslaiec: self.figure(Determinant::Rthslaiec),
+            rtvssaiec: self.figure(Determinant::Rtvssaiec),
+            rtmg: self.number(Determinant::Rtmg),
         }
     }
-    Ok(Some(taken))
-}
 
-fn number_at(taken: &[Option<i64>; 11], k: usize) -> i64
-    requires { k < 11 }
-    ensures { result ≡ number_at taken.now k }
-{
-    taken[k].unwrap_or(0)
-}
-
-fn gather(taken: &[Option<i64>; 11]) -> Readings
-    ensures { result ≡ gathered taken.now }
-{
-    Readings {
-        vssvariol: number_at(taken, 1),
-        urllag: number_at(taken, 2),
-        urllead: number_at(taken, 3),
-        rtvar: number_at(taken, 4),
-        hsl: number_at(taken, 5),
-        lsl: number_at(taken, 6),
-        rtspp: number_at(taken, 7),
-        rthslaiec: taken[8],
-        rtvssaiec: taken[9],
-        rtmg: number_at(taken, 10),
+    fn asked(&self) -> Asked
+        ensures { result ≡ asked_of self.now.places }
+    {
+        Asked {
+            owner: self.number(Determinant::Owner).unsigned_abs() as usize,
+            readings: self.readings(),
+        }
     }
 }
 
-fn asked_of(taken: &[Option<i64>; 11]) -> Asked
-    requires { unsigned_abs (number_at taken.now 0) < 64 }
-    ensures owner { result.owner ≡ unsigned_abs (number_at taken.now 0) }
-    ensures readings { result.readings ≡ gathered taken.now }
-{
-    Asked {
-        owner: number_at(taken, 0).unsigned_abs() as usize,
-        readings: gather(taken),
+impl<S: Source> Inquiry<'_, S> {
+    // What the answer about a determinant and a unit means.
+    pub(crate) fn judge(&self, determinant: Determinant, unit: u32) -> Judgement
+        ensures { result ≡ judged_at (S.Source.table self.now.source.now) self.now.slot.day self.now.slot.interval determinant unit }
+    {
+        let question = Question::about(determinant, unit, self.slot);
+        judge(determinant, self.source.ask(question))
     }
-}
 
-// Asks for a Resource; none where it is passed over.
-pub(crate) fn read_resource<S: Source>(
-    source: &S,
-    unit: u32,
-    slot: Slot,
-    noted: &mut usize,
-    warnings: &mut [Warning],
-) -> Result<Option<Asked>, Fault>
-    requires { noted.old ≤ 4000 }
-    ensures course { after_by warnings.new noted.new result ≡ after warnings.old noted.old (resource (S.Source.table source.now) slot.day slot.interval unit) }
-    ensures few { noted.new ≤ noted.old + 11 }
-    ensures asks { Asks (S.Source.table source.now) slot.day slot.interval unit result }
-{
-    let found = ask_resource(source, unit, slot, noted, warnings)?;
-    match found {
-        Some(taken) => Ok(Some(asked_of(&taken))),
-        None => Ok(None),
+    // The same; where a cost is missing in the first interval of an hour, a warning row is noted.
+    fn judge_noting(
+        &self,
+        determinant: Determinant,
+        resource: u32,
+        notes: &mut Notes<'_>,
+    ) -> Judgement
+        requires { notes.old.count ≤ 5000 }
+        ensures judgement { result ≡ judged_at (S.Source.table self.now.source.now) self.now.slot.day self.now.slot.interval determinant resource }
+        ensures same { notes.new.rows.ghost_name ≡ notes.old.rows.ghost_name }
+        ensures count { notes.new.count ≡ notes.old.count + length (rows_for self.now.slot.day self.now.slot.interval resource determinant result) }
+        ensures rows { notes.new.rows.now ≡ written notes.old.rows.now notes.old.count (rows_for self.now.slot.day self.now.slot.interval resource determinant result) }
+    {
+        let judgement = self.judge(determinant, resource);
+        if judgement == Judgement::Warned && self.slot.interval % 4 == 1 {
+            notes.add(Warning {
+                determinant: determinant.into(),
+                resource,
+                day: self.slot.day,
+                hour: self.slot.interval / 4 + 1,
+            });
+        }
+        judgement
+    }
+
+    // What the determinants of one Resource give, in asking order; none where it is passed over.
+    fn figures(&self, unit: u32, notes: &mut Notes<'_>) -> Result<Option<Figures>, Fault>
+        requires { notes.old.count ≤ 4000 }
+        ensures same { notes.new.rows.ghost_name ≡ notes.old.rows.ghost_name }
+        ensures course { after_by notes.new.rows.now notes.new.count result ≡ after notes.old.rows.now notes.old.count (resource (S.Source.table self.now.source.now) self.now.slot.day self.now.slot.interval unit) }
+        ensures few { notes.new.count ≤ notes.old.count + 11 }
+        ensures reads { Reads (S.Source.table self.now.source.now) self.now.slot.day self.now.slot.interval unit result }
+    {
+        let mut figures = Figures { places: [None; 13] };
+        for determinant in &OF_RESOURCE {
+            let figure = match self.judge_noting(*determinant, unit, notes) {
+                Judgement::Taken(figure) => Some(figure),
+                Judgement::Warned => None,
+                Judgement::Skipped => return Ok(None),
+                Judgement::Stopped(cause) => {
+                    return Err(Fault {
+                        cause,
+                        determinant: *determinant,
+                        unit,
+                    });
+                }
+            };
+            figures.put(*determinant, figure);
+        }
+        Ok(Some(figures))
+    }
+
+    // Asks for a Resource; none where it is passed over.
+    pub(crate) fn resource(&self, unit: u32, notes: &mut Notes<'_>) -> Result<Option<Asked>, Fault>
+        requires { notes.old.count ≤ 4000 }
+        ensures same { notes.new.rows.ghost_name ≡ notes.old.rows.ghost_name }
+        ensures course { after_by notes.new.rows.now notes.new.count result ≡ after notes.old.rows.now notes.old.count (resource (S.Source.table self.now.source.now) self.now.slot.day self.now.slot.interval unit) }
+        ensures few { notes.new.count ≤ notes.old.count + 11 }
+        ensures asks { Asks (S.Source.table self.now.source.now) self.now.slot.day self.now.slot.interval unit result }
+    {
+        let figures = self.figures(unit, notes)?;
+        Ok(figures.map(|figures| figures.asked()))
     }
 }

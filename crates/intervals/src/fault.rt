@@ -2,8 +2,8 @@
 ghost use Rattle.std.specs.Prelude.{◌≡◌};
 ghost use Rattle.intervals.specs.Stops.{cause_number, stop_at};
 
-use crate::slot::Slot;
 use terms::determinant::Determinant;
+use terms::question::Slot;
 
 #[derive(Clone, Copy, Debug, PartialEq, Eq)]
 pub enum Cause {
@@ -39,11 +39,8 @@ pub struct Fault {
 // A fault with the interval in which it was found, and how many warning rows came up before it.
 #[derive(Clone, Copy, Debug, PartialEq, Eq)]
 pub struct Stop {
-    pub cause: Cause,
-    pub determinant: Determinant,
-    pub unit: u32,
-    pub day: u32,
-    pub interval: u32,
+    pub fault: Fault,
+    pub slot: Slot,
     pub warnings: usize,
 }
 
@@ -53,11 +50,8 @@ impl Fault {
         ensures { result ≡ stop_at slot.day slot.interval warnings self }
     {
         Stop {
-            cause: self.cause,
-            determinant: self.determinant,
-            unit: self.unit,
-            day: slot.day,
-            interval: slot.interval,
+            fault: self,
+            slot,
             warnings,
         }
     }

@@ -23,7 +23,7 @@ pub fn judge(determinant: Determinant, answer: Answer) -> Judgement
     ensures { result ≡ judged determinant answer }
 {
     let missing = determinant.missing();
-    match (determinant.number(), answer) {
+    match (u32::from(determinant), answer) {
         (_, Answer::Figure(x)) if !determinant.admits(x) => Judgement::Stopped(Cause::OutOfRange),
         (_, Answer::Figure(x)) => Judgement::Taken(x),
         (1..=2, _) => Judgement::Skipped,

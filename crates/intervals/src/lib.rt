@@ -6,7 +6,7 @@ mod charging;
 pub mod fault;
 pub mod interval;
 pub mod judge;
+mod notes;
 mod paying;
 mod shares;
-pub mod slot;
 pub mod warning;
