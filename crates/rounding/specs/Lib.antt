@@ -1,3 +1,4 @@
 pub mod Rounds
+pub mod Rules
 pub mod Refusals
 pub mod RoundsKept
