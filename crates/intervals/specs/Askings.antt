@@ -1,11 +1,12 @@
 -- What asking comes to, as the code has it. Assumes nothing.
-use Rattle.std.specs.Prelude.{◌≡◌, ℕ, ◌-◌, ◌*◌, ◌<◌, ◌≤◌, true, false, List, [], ◌∷◌, length, ℤ, pos, Some, None, Ok, Err, Option, Result, slice_index, slice_index_or, unsigned_abs}
+use Rattle.std.specs.Prelude.{◌≡◌, ℕ, ◌-◌, ◌*◌, ◌<◌, ◌≤◌, true, false, List, [], ◌∷◌, length, ℤ, pos, Some, None, Ok, Err, Option, Result, ◌≢◌, slice_index, slice_index_or, unsigned_abs}
 use Rattle.terms.specs.declared.determinant.Determinant.{Determinant}
 use Rattle.intervals.specs.declared.asking.Asked.{Asked}
 use Rattle.intervals.specs.declared.asking.Figures.{Figures}
 use Rattle.intervals.specs.declared.judge.Judgement.{Judgement}
 use Rattle.intervals.specs.declared.judge.Judgement.TheVariants.{Taken, Warned}
 use Rattle.terms.specs.declared.determinant.Determinant.TheVariants.{Owner, Vssvariol, Urllag, Urllead, Rtvar, Hsl, Lsl, Rtspp, Rthslaiec, Rtvssaiec, Rtmg, Lrs, Vssvarpr}
+use Rattle.terms.specs.declared.determinant.Missing.TheVariants.{Skip, Warning as Warns}
 use Rattle.terms.specs.Sources.{Table}
 use Rattle.std.specs.Option.{unwrap_or}
 use Rattle.amounts.specs.declared.readings.Readings.{Readings}
@@ -14,7 +15,7 @@ use Rattle.amounts.specs.Tables.{skipped, at, readings_at}
 use Rattle.amounts.specs.Traces.{entities}
 use Rattle.intervals.specs.declared.fault.Fault.{Fault}
 use Rattle.intervals.specs.declared.warning.Warning.{Warning}
-use Rattle.terms.specs.Determinants.{number_of, admitted}
+use Rattle.terms.specs.Determinants.{number_of, missing_of, admitted}
 use Rattle.intervals.specs.Courses.{clear, halted, judged_at, walk, of_resource, next, shares_to, summed, After}
 use Rattle.amounts.specs.Sums.{add_to}
 
@@ -43,6 +44,11 @@ module _ (t : Table) (y i : ℕ) where
   Reads u (Ok (Some f)) = Kept u 11 f.places
   Reads u (Ok None) = Passed u
   Reads u (Err f) = Unit {0}
+
+-- neither passed over nor warned of where it is missing
+pub record Needed (d : Determinant) : Type 0 where
+  pub kept : missing_of d ≢ Skip
+  pub unwarned : missing_of d ≢ Warns
 
 -- where the figure of a determinant stands
 abbrev pub place_of : Determinant → ℕ
@@ -92,9 +98,12 @@ module _ (t : Table) (y i : ℕ) where
     pub value : x ≡ at t y i d u
     pub within : admitted d (at t y i d u) ≡ true
 
+  abbrev pub Figured : Determinant → ℕ → Result ℤ Fault → Type 0
+  Figured d u (Ok x) = Plain d u x
+  Figured d u (Err f) = walk t y i u (d ∷ []) ≡ halted f
+
   abbrev pub Priced : Result ℤ Fault → Type 0
-  Priced (Ok x) = Plain Vssvarpr 0 x
-  Priced (Err f) = walk t y i 0 (Vssvarpr ∷ []) ≡ halted f
+  Priced r = Figured Vssvarpr 0 r
 
   abbrev pub Shared : ℕ → Result ℕ Fault → Type 0
   Shared q (Ok x) = (Plain Lrs q (at t y i Lrs q)) × ((x ≡ unsigned_abs (at t y i Lrs q)) × (x ≤ 1000000))

@@ -3,7 +3,7 @@ ghost use Rattle.std.specs.Prelude.{◌≡◌, ℕ, ◌<◌, ◌≤◌};
 ghost use Rattle.terms.specs.Determinants.{admitted};
 ghost use Rattle.amounts.specs.Sums.{add_to};
 ghost use Rattle.amounts.specs.Tables.{at};
-ghost use Rattle.intervals.specs.Askings.{Priced, Shared, Divided};
+ghost use Rattle.intervals.specs.Askings.{Needed, Figured, Priced, Shared, Divided};
 
 use crate::asking::Inquiry;
 use crate::fault::{Cause, Fault};
@@ -14,33 +14,34 @@ use terms::question::ENTITIES;
 use terms::source::Source;
 
 impl<S: Source> Inquiry<'_, S> {
+    // The figure of a determinant that is neither passed over nor warned of.
+    fn needed(&self, determinant: Determinant, unit: u32) -> Result<i64, Fault>
+        requires { Needed determinant }
+        ensures { Figured (S.Source.table self.now.source.now) self.now.slot.day self.now.slot.interval determinant unit result }
+    {
+        match self.judge(determinant, unit) {
+            Judgement::Taken(figure) => Ok(figure),
+            Judgement::Stopped(cause) => Err(Fault {
+                cause,
+                determinant,
+                unit,
+            }),
+            Judgement::Skipped | Judgement::Warned => unreachable(),
+        }
+    }
+
     // The price of reactive energy in the interval.
     pub(crate) fn price(&self) -> Result<i64, Fault>
         ensures { Priced (S.Source.table self.now.source.now) self.now.slot.day self.now.slot.interval result }
     {
-        match self.judge(Determinant::Vssvarpr, 0) {
-            Judgement::Taken(price) => Ok(price),
-            Judgement::Stopped(cause) => Err(Fault {
-                cause,
-                determinant: Determinant::Vssvarpr,
-                unit: 0,
-            }),
-            _ => unreachable(),
-        }
+        self.needed(Determinant::Vssvarpr, 0)
     }
 
     fn share(&self, entity: u32) -> Result<u32, Fault>
         ensures { Shared (S.Source.table self.now.source.now) self.now.slot.day self.now.slot.interval entity result }
     {
-        match self.judge(Determinant::Lrs, entity) {
-            Judgement::Taken(share) => Ok(share.unsigned_abs() as u32),
-            Judgement::Stopped(cause) => Err(Fault {
-                cause,
-                determinant: Determinant::Lrs,
-                unit: entity,
-            }),
-            _ => unreachable(),
-        }
+        let share = self.needed(Determinant::Lrs, entity)?;
+        Ok(share.unsigned_abs() as u32)
     }
 
     // The shares of all entities, which are all of the load together.
