@@ -3,15 +3,19 @@ use Rattle.std.proofs.Common.{◌≡◌, ℕ, ◌+◌, ◌<◌, ◌≤◌, Bool,
 use Rattle.std.proofs.lemmas.Bool.{and_parts, ltb-true, eqb-true, le-ltb}
 use Rattle.terms.specs.Told.{fine}
 use Rattle.terms.specs.Sources.{Table}
+use Rattle.amounts.specs.Sums.{sum_to}
+use Rattle.amounts.specs.Workings.{paid, charge}
+use Rattle.amounts.specs.Tables.{working}
 use Rattle.intervals.specs.declared.fault.Fault.{Fault}
-use Rattle.intervals.specs.declared.interval.Settled.{Settled}
+use Rattle.intervals.specs.declared.interval.Worked.{Worked}
+use Rattle.amounts.specs.declared.row.Amounts.{Amounts}
 use Rattle.intervals.specs.declared.warning.Warning.{Warning}
 use Rattle.intervals.specs.Courses.{Course, course, written}
 use Rattle.intervals.specs.Settlements.{SettledBy, stop_of}
 use Rattle.intervals.proofs.Rowed.{written_front}
 use Rattle.runs.specs.declared.refusal.IntervalRefusal.TheVariants.{FewRows}
 use Rattle.runs.specs.declared.work.Work.{Work}
-use Rattle.runs.specs.Turns.{is_due, barred, worked, worked_of, answering, warned, stopping}
+use Rattle.runs.specs.Turns.{is_due, barred, worked, answering, warned, stopping}
 
 pub due_parts : (w : Work) (i : ℕ) → is_due w i ≡ true → (w.intervals < 96) × (i ≡ w.intervals + 1)
 due_parts w i e = let p = and_parts (ltb w.intervals 96) (eqb i (w.intervals + 1)) e in (ltb-true w.intervals 96 p.0, eqb-true i (w.intervals + 1) p.1)
@@ -37,6 +41,10 @@ module _ (t : Table) (stopped : Bool) (w : Work) (i : ℕ) (ws : List Warning) (
   pub answering_is : (rd : ℤ → ℕ → ℤ) → (course t w.day i).fault ≡ None → fine (worked rd t w.day i) ≡ answering rd t stopped w i (length ws)
   answering_is rd none = sym (rw (goes, none) refl)
 
-pub worked_is : (rd : ℤ → ℕ → ℤ) (t : Table) (y i : ℕ) (s : Settled) → SettledBy rd t y i s.rows s.paid s.charges s.charged → s.warnings ≡ length (course t y i).rows → worked_of s ≡ worked rd t y i
+pub worked_is : (rd : ℤ → ℕ → ℤ) (t : Table) (y i : ℕ) (rows : List Amounts) (w : Worked) → SettledBy rd t y i rows w.paid w.charges w.charged → w.warnings ≡ length (course t y i).rows → w ≡ worked rd t y i
 unfolding worked
-worked_is rd t y i s by n = let a = by.paying in let b = by.charging in let c = by.counting in cc
+worked_is rd t y i rows w by n =
+    ap (λ x. record { warnings = x; paid = w.paid; charges = w.charges; charged = w.charged }) n
+    ∙ ap (λ x. record { warnings = length (course t y i).rows; paid = x; charges = w.charges; charged = w.charged }) by.paying
+    ∙ ap (λ x. record { warnings = length (course t y i).rows; paid = paid 128 (working t y i rd); charges = x; charged = w.charged }) by.charging
+    ∙ ap (λ x. record { warnings = length (course t y i).rows; paid = paid 128 (working t y i rd); charges = sum_to 64 (charge rd 128 (working t y i rd)); charged = x }) by.counting

@@ -1,4 +1,5 @@
 pub mod Refusals
+pub mod Bounds
 pub mod Works
 pub mod Days
 pub mod Turns

@@ -7,14 +7,13 @@ use Rattle.amounts.specs.Sums.{sum_to}
 use Rattle.amounts.specs.Workings.{paid, charge, charged_shares}
 use Rattle.amounts.specs.Tables.{working}
 use Rattle.intervals.specs.declared.fault.Fault.{Fault}
-use Rattle.intervals.specs.declared.interval.Settled.{Settled}
+use Rattle.intervals.specs.declared.interval.Worked.{Worked}
 use Rattle.intervals.specs.declared.warning.Warning.{Warning}
 use Rattle.intervals.specs.Stops.{stop_at}
 use Rattle.intervals.specs.Courses.{course}
 use Rattle.runs.specs.declared.refusal.IntervalRefusal.{IntervalRefusal}
 use Rattle.runs.specs.declared.refusal.IntervalRefusal.TheVariants.{Stopped, NotDue, FewRows, Halted}
 use Rattle.runs.specs.declared.work.Work.{Work}
-use Rattle.runs.specs.declared.working.Worked.{Worked}
 use Rattle.runs.specs.Refusals.{numbered}
 use Rattle.runs.specs.Works.{Grown}
 
@@ -29,9 +28,6 @@ is_due w i = nat_lt w.intervals last_interval && i == w.intervals + 1
 -- why nothing is asked: in checking order, for a run that has stopped or not, an interval, and a list of so many rows
 abbrev pub barred : Bool → Work → ℕ → ℕ → Option IntervalRefusal
 barred stopped w i rows = cond stopped (Some Stopped) (cond (is_due w i) (cond (nat_lt rows 256) (Some FewRows) None) (Some NotDue))
-
-abbrev pub worked_of : Settled → Worked
-worked_of s = record { warnings = s.warnings; paid = s.paid; charges = s.charges; charged = s.charged }
 
 module _ (rounded : ℤ → ℕ → ℤ) (t : Table) where
   -- what a settled interval answers

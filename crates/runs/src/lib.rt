@@ -2,6 +2,7 @@
 #![tactic(auto)]
 
 pub mod day;
+mod entering;
 pub mod opening;
 pub mod refusal;
 pub mod run;

@@ -42,7 +42,7 @@ impl IntervalRefusal {
             IntervalRefusal::Stopped => 11,
             IntervalRefusal::NotDue => 12,
             IntervalRefusal::FewRows => 13,
-            IntervalRefusal::Halted(stop) => stop.cause.number(),
+            IntervalRefusal::Halted(stop) => stop.fault.cause.number(),
         }
     }
 }

@@ -1,71 +1,26 @@
 // Opening a run, working its intervals, closing it.
-ghost use Rattle.std.specs.Prelude.{◌≡◌, ℕ, ◌+◌, ◌*◌, ◌<◌, ◌≤◌, true, false, List, [], length, slice_index_or, unsigned_abs};
+ghost use Rattle.std.specs.Prelude.{◌≡◌, ℕ, ◌*◌, ◌≤◌, false, List, [], length, slice_index_or, unsigned_abs};
 ghost use Rattle.terms.specs.Sources.{Table};
 ghost use Rattle.amounts.specs.Sums.{sum_to};
-ghost use Rattle.amounts.specs.Triples.{none, net, plus};
+ghost use Rattle.amounts.specs.Triples.{none, net};
 ghost use Rattle.amounts.specs.Traces.{Trace};
-ghost use Rattle.runs.specs.Works.{Within, WorkedBy, traced, Grown};
-ghost use Rattle.runs.specs.Turns.{is_due, worked_of, told, answering, warned, stopping, Moves, extended};
+ghost use Rattle.runs.specs.Works.{WorkedBy, traced};
+ghost use Rattle.runs.specs.Turns.{told, answering, warned, stopping, Moves, extended};
 
 use crate::day::RunDay;
 use crate::refusal::IntervalRefusal;
 use crate::run::Run;
 use crate::sheet::Sheet;
-use crate::work::{Work, add_rows, start};
-use intervals::interval::{Settled, work_interval};
+use crate::work::Work;
+pub use intervals::interval::Worked;
+use intervals::interval::work_interval;
 use intervals::warning::Warning;
 use rounding::rule::Rounding;
-use terms::question::LAST_INTERVAL;
+use terms::question::Slot;
 use terms::source::Source;
 
 // The rows that a list of warnings must have: two for each Resource.
 pub const WARNING_ROWS: usize = 256;
-
-// What an accepted interval answers: how many warning rows were written, the sum of all payments, the sum of all charges, and how many
-// shares are charged.
-#[derive(Clone, Copy, Debug, PartialEq, Eq)]
-pub struct Worked {
-    pub warnings: usize,
-    pub paid: i64,
-    pub charges: i64,
-    pub charged: u32,
-}
-
-fn worked_of(settled: &Settled) -> Worked
-    ensures { result ≡ worked_of settled.now }
-{
-    Worked {
-        warnings: settled.warnings,
-        paid: settled.paid,
-        charges: settled.charges,
-        charged: settled.charged,
-    }
-}
-
-impl Work {
-    fn is_due(&self, interval: u32) -> bool
-        ensures { result ≡ is_due self.now interval }
-    {
-        self.intervals < LAST_INTERVAL && interval == self.intervals + 1
-    }
-
-    // Takes over what an interval has come to.
-    fn enter(&mut self, settled: &Settled)
-        requires due { self.old.intervals < 96 }
-        requires charged { self.old.charged ≤ 6144 }
-        requires few { settled.now.charged ≤ 64 }
-        requires totals_small { (q : ℕ) → q < 64 → Within 100 (slice_index_or self.old.totals q none) }
-        requires rows_small { (q : ℕ) → q < 64 → Within 100 (slice_index_or settled.now.rows q none) }
-        ensures day { self.new.day ≡ self.old.day }
-        ensures intervals { self.new.intervals ≡ self.old.intervals + 1 }
-        ensures charged { self.new.charged ≡ self.old.charged + settled.now.charged }
-        ensures totals { (q : ℕ) → q < 64 → slice_index_or self.new.totals q none ≡ plus (slice_index_or self.old.totals q none) (slice_index_or settled.now.rows q none) }
-    {
-        add_rows(&mut self.totals, &settled.rows);
-        self.charged += settled.charged;
-        self.intervals += 1;
-    }
-}
 
 impl<R: Rounding> Run<R> {
     // Opens a run of a day under a rule: nothing is worked yet.
@@ -74,7 +29,7 @@ impl<R: Rounding> Run<R> {
         ensures stopped { result.stopped ≡ false }
         ensures law { WorkedBy (traced day.day (R.Rounding.rounded rule) []) result.work }
     {
-        let work = start(day.day);
+        let work = Work::start(day);
         Run {
             rule,
             work,
@@ -106,10 +61,14 @@ impl<R: Rounding> Run<R> {
         if warnings.len() < WARNING_ROWS {
             return Err(IntervalRefusal::FewRows);
         }
-        match work_interval(&self.rule, source, self.work.day, interval, warnings) {
+        let slot = Slot {
+            day: self.work.day,
+            interval,
+        };
+        match work_interval(&self.rule, source, slot, warnings) {
             Ok(settled) => {
                 self.work.enter(&settled);
-                Ok(worked_of(&settled))
+                Ok(settled.worked)
             }
             Err(stop) => {
                 self.stopped = true;
