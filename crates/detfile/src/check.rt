@@ -50,13 +50,9 @@ fn judge(bytes: &[u8]) -> Result<u32, FileRefusal>
     if bytes.len() > MOST_BYTES {
         return Err(FileRefusal::TooLong);
     }
-    let Some((names, values)) = cut_line(bytes) else {
-        return Err(FileRefusal::Names);
-    };
-    match columns_of(names) {
-        Some(columns) => check_lines(columns.as_slice(), values),
-        None => Err(FileRefusal::Names),
-    }
+    let (names, values) = cut_line(bytes).ok_or(FileRefusal::Names)?;
+    let columns = columns_of(names).ok_or(FileRefusal::Names)?;
+    check_lines(columns.as_slice(), values)
 }
 
 // The number of value lines of a file, or why and at which line it is refused. The law says so in words: a file is accepted where its

@@ -3,6 +3,7 @@
 
 pub mod check;
 pub mod columns;
+pub mod fields;
 pub mod key;
 pub mod names;
 pub mod refusal;
