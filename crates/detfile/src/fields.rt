@@ -6,7 +6,7 @@ ghost use Rattle.detfile.specs.Keys.{values_part};
 use figures::cutting::cut_field;
 
 // The first three fields, and what stands after them.
-#[derive(Clone, Copy)]
+#[derive(Clone, Copy, Debug, PartialEq, Eq)]
 pub struct Fields<'a> {
     pub day: &'a [u8],
     pub unit: &'a [u8],

@@ -7,14 +7,14 @@ ghost use Rattle.detfile.specs.Walks.{line_of, lines_left};
 use crate::check::cut_line;
 
 // A line without its line feed, which only the last may lack.
-#[derive(Clone, Copy)]
+#[derive(Clone, Copy, Debug, PartialEq, Eq)]
 pub enum Line<'a> {
     Ended(&'a [u8]),
     Unended(&'a [u8]),
 }
 
 // The lines of some bytes, from the first on; nothing after the last line feed is no line.
-#[derive(Clone, Copy)]
+#[derive(Drop)]
 pub struct Lines<'a> {
     rest: &'a [u8],
 }
