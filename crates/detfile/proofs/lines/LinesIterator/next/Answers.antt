@@ -1,4 +1,4 @@
-use Rattle.std.proofs.Common.{length, ap, arith, true-eqb, false-eqb}
+use Rattle.std.proofs.Common.{length, ap, arith, false-eqb}
 use Rattle.detfile.proofs.LineSteps.{line_more, line_open}
 use Rattle.detfile.proofs.lines.LinesIterator.next.Goals as goal
 
