@@ -1,8 +1,8 @@
 -- One step of the walk over the lines of a file.
-use Rattle.std.proofs.Common.{◌≡◌, ℕ, ◌+◌, Bool, true, false, cond, eqb, List, [], ◌∷◌, ◌++◌, length, Some, None, Ok, Err, Option, sym, refl, ap, ◌∙◌, append_assoc, append-nil}
+use Rattle.std.proofs.Common.{◌≡◌, ℕ, ◌+◌, ◌≤◌, Bool, true, false, cond, eqb, List, [], ◌∷◌, ◌++◌, length, Some, None, Ok, Err, Option, sym, refl, ap, ◌∙◌, append_assoc, append-nil, arith}
 use Rattle.std.specs.List.{flat_map}
-use Rattle.std.proofs.lemmas.List.{nil_from_length}
-use Rattle.std.proofs.lemmas.Bool.{cond-false, ne_eqb, eqb-true}
+use Rattle.std.proofs.lemmas.List.{nil_from_length, length_push}
+use Rattle.std.proofs.lemmas.Bool.{cond-false, cond_both, ne_eqb, eqb-true, eqb-false}
 use Rattle.terms.specs.declared.determinant.Determinant.{Determinant}
 use Rattle.figures.specs.Cuts.{cut, cut_on}
 use Rattle.detfile.specs.declared.refusal.FileRefusal.{FileRefusal}
@@ -42,6 +42,18 @@ module _ (ks : List Determinant) (n : ℕ) (bs : List ℕ) where
 
   pub judge_stop : (p : List ℕ × List ℕ) (why : FileRefusal) → Some p ≡ cut 10 bs → Err why ≡ line_judged ks (n + 2) p.0 → lines_judged ks n (lines bs) ≡ Err why
   judge_stop p why e h = ap (lines_judged ks n) (line_more bs p e) ∙ ap (λ r. then r (λ _. lines_judged ks (n + 1) (lines p.1))) (sym h)
+
+-- each line has a byte of its own
+few_lines_on : (front bs : List ℕ) → length (lines_on front bs) ≤ length front + length bs
+few_lines_on front [] =
+    cond_both (eqb (length front) 0) [] (unended front ∷ []) (λ ls. length ls ≤ length front + 0) (λ _. omega arith)
+    (λ f. let h = eqb-false (length front) 0 f in omega arith)
+few_lines_on front (b ∷ bs) =
+    cond_both (eqb b 10) (ended front ∷ lines_on [] bs) (lines_on (front ++ b ∷ []) bs) (λ ls. length ls ≤ length front + length (b ∷ bs))
+    (λ _. let h = few_lines_on [] bs in omega arith) (λ _. let h = few_lines_on (front ++ b ∷ []) bs in omega (arith, length_push front b))
+
+pub few_lines : (bs : List ℕ) → length (lines bs) ≤ length bs
+few_lines bs = let h = few_lines_on [] bs in omega arith
 
 last_line : (front : List ℕ) (t : Bool) → eqb (length front) 0 ≡ t → flat_map written (cond t [] (unended front ∷ [])) ≡ front
 last_line front true e = sym (nil_from_length front (eqb-true _ 0 e))

@@ -1,21 +1,26 @@
 -- One step of the walks over names.
-use Rattle.std.proofs.Common.{◌≡◌, ℕ, suc, ◌+◌, ◌-◌, ◌<◌, ◌≤◌, true, false, ◌||◌, List, [], ◌∷◌, ◌++◌, length, get_or, drop, Some, None, sym, ap, ◌∙◌, arith}
-use Rattle.std.proofs.lemmas.List.{at_drop_more, at_drop_all}
-use Rattle.std.proofs.lemmas.Bool.{cond-true, cond-false, eq-eqb, ne_eqb, or_left}
+use Rattle.std.proofs.Common.{◌≡◌, ℕ, suc, ◌+◌, ◌-◌, ◌<◌, Bool, true, false, eqb, List, [], ◌∷◌, ◌++◌, Some, None, sym, refl, ap, ◌∙◌, arith, rules}
+use denote.Enum.Bare.{sameb, same_true, same_false}
+use Rattle.std.specs.List.{list_any}
+use Rattle.terms.specs.contracts.determinant.Determinant.{the_type}
+use Rattle.terms.proofs.Tabling.{same_number}
+use Rattle.std.proofs.lemmas.Bool.{cond-true, cond-false, eq-eqb, ne_eqb}
 use Rattle.terms.specs.declared.determinant.Determinant.{Determinant}
 use Rattle.terms.specs.Determinants.{number_of, named}
 use Rattle.figures.specs.Cuts.{first_field, past_field}
 use Rattle.detfile.specs.Names.{held, next_name, names_on}
 
-module _ (ks : List Determinant) (i : ℕ) (d k : Determinant) where
-  pub held_here : i < length ks → number_of (get_or ks i d) ≡ number_of k → held k (drop i ks) ≡ true
-  held_here h e = at_drop_more (held k) ks i d h ∙ or_left _ _ (eq-eqb _ _ e)
+-- two determinants are the same where their numbers are
+same_by_number : (j k : Determinant) → sameb the_type j k ≡ eqb (number_of j) (number_of k)
+same_by_number j k = by (sameb the_type j k) refl
+  where
+    by : (t : Bool) → sameb the_type j k ≡ t → t ≡ eqb (number_of j) (number_of k)
+    by true e = sym (eq-eqb _ _ (ap number_of (same_true the_type (search rules) j k e)))
+    by false e = sym (ne_eqb _ _ (λ n. same_false the_type j k e (same_number j k n)))
 
-  pub held_more : i < length ks → (number_of (get_or ks i d) ≡ number_of k → ⊥) → held k (drop i ks) ≡ held k (drop (i + 1) ks)
-  held_more h e = at_drop_more (held k) ks i d h ∙ ap (λ t. t || held k (drop (i + 1) ks)) (ne_eqb _ _ e)
-
-pub held_none : (ks : List Determinant) (i : ℕ) (k : Determinant) → length ks ≤ i → held k (drop i ks) ≡ false
-held_none ks i k h = at_drop_all (held k) ks i h
+pub held_listed : (d : Determinant) (ks : List Determinant) → list_any (λ k. sameb the_type k d) ks ≡ held d ks
+held_listed d [] = refl
+held_listed d (k ∷ ks) = cc (same_by_number k d, held_listed d ks)
 
 module _ (n i : ℕ) (ks : List Determinant) (bs : List ℕ) (h : i < n) where
   names_step : names_on (n - i) ks bs ≡ next_name ks (named (first_field bs)) (λ ls. names_on (n - (i + 1)) ls (past_field bs))

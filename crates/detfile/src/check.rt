@@ -7,6 +7,7 @@ ghost use Rattle.detfile.specs.Lines.{lines, lines_judged};
 ghost use Rattle.detfile.specs.Files.{judged, checked};
 ghost use Rattle.detfile.specs.Verdicts.{Lined, Verdict};
 
+use crate::lines::{Line, Lines};
 use crate::names::columns_of;
 use crate::refusal::FileRefusal;
 use crate::values::check_line;
@@ -31,14 +32,12 @@ fn check_lines(columns: &[Determinant], values: &[u8]) -> Result<u32, FileRefusa
     ensures { result ≡ lines_judged columns.now 0 (lines values.now) }
 {
     let mut count: u32 = 0;
-    let mut rest = values;
-    while !rest.is_empty() {
-        let Some((line, after)) = cut_line(rest) else {
-            return Err(FileRefusal::Shape(count + 2));
-        };
-        check_line(columns, line, count + 2)?;
+    for line in Lines::new(values) {
+        match line {
+            Line::Ended(bytes) => check_line(columns, bytes, count + 2)?,
+            Line::Unended(_) => return Err(FileRefusal::Shape(count + 2)),
+        }
         count += 1;
-        rest = after;
     }
     Ok(count)
 }
@@ -50,13 +49,9 @@ fn judge(bytes: &[u8]) -> Result<u32, FileRefusal>
     if bytes.len() > MOST_BYTES {
         return Err(FileRefusal::TooLong);
     }
-    let Some((names, values)) = cut_line(bytes) else {
-        return Err(FileRefusal::Names);
-    };
-    match columns_of(names) {
-        Some(columns) => check_lines(columns.as_slice(), values),
-        None => Err(FileRefusal::Names),
-    }
+    let (names, values) = cut_line(bytes).ok_or(FileRefusal::Names)?;
+    let columns = columns_of(names).ok_or(FileRefusal::Names)?;
+    check_lines(columns.as_slice(), values)
 }
 
 // The number of value lines of a file, or why and at which line it is refused. The law says so in words: a file is accepted where its

@@ -1,5 +1,5 @@
 // The columns of a file.
-ghost use Rattle.std.specs.Prelude.{◌≡◌, ◌≤◌, [], length, take};
+ghost use Rattle.std.specs.Prelude.{◌≡◌, ◌+◌, ◌<◌, ◌≤◌, [], ◌∷◌, ◌++◌, length};
 
 use terms::determinant::Determinant;
 
@@ -15,29 +15,40 @@ pub struct Columns {
 }
 
 impl Columns {
+    ghost use Rattle.detfile.specs.Names.{columns_in, held};
+
     pub fn as_slice(&self) -> &[Determinant]
-        ensures value { result.now ≡ take self.now.count self.now.determinants }
+        ensures value { result.now ≡ columns_in self.now }
         ensures few { length result.now ≤ 13 }
     {
-        &self.determinants[0..self.count]
+        &self.determinants[..self.count]
+    }
+
+    // Whether a determinant is one of these.
+    pub(crate) fn contains(&self, determinant: Determinant) -> bool
+        ensures { result ≡ held determinant (columns_in self.now) }
+    {
+        self.as_slice().contains(&determinant)
     }
 
     // No columns.
     pub fn none() -> Columns
-        ensures { take result.count result.determinants ≡ [] }
-    {
-        Columns::first([Determinant::Owner; MOST_COLUMNS], 0)
-    }
-
-    // The first `count` of these.
-    pub(crate) fn first(determinants: [Determinant; MOST_COLUMNS], count: usize) -> Columns
-        requires { count ≤ 13 }
-        ensures determinants { result.determinants ≡ determinants }
-        ensures count { result.count ≡ count }
+        ensures columns { columns_in result ≡ [] }
+        ensures count { result.count ≡ 0 }
     {
         Columns {
-            determinants,
-            count,
+            determinants: [Determinant::Owner; MOST_COLUMNS],
+            count: 0,
         }
+    }
+
+    // Puts one more after these.
+    pub(crate) fn push(&mut self, determinant: Determinant)
+        requires { self.old.count < 13 }
+        ensures columns { columns_in self.new ≡ columns_in self.old ++ determinant ∷ [] }
+        ensures count { self.new.count ≡ self.old.count + 1 }
+    {
+        self.determinants[self.count] = determinant;
+        self.count += 1;
     }
 }

@@ -1,12 +1,12 @@
 // The day, the unit and the interval of a value line.
 ghost use Rattle.std.specs.Prelude.{◌≡◌};
 ghost use Rattle.terms.specs.Limits.{last_day, last_unit};
-ghost use Rattle.figures.specs.Tokens.{seen};
-ghost use Rattle.detfile.specs.Keys.{ranged, interval_by, key_by, key_of, values_part, covers_of};
+ghost use Rattle.figures.specs.Tokens.{seen, token_of};
+ghost use Rattle.detfile.specs.Keys.{ranged, interval_by, key_by, covers_of};
 
-use figures::cutting::cut_field;
+use crate::fields::Fields;
 use figures::numbers::{Fault, short_number};
-use figures::tokens::{Token, cut_token};
+use figures::tokens::Token;
 use terms::question::{LAST_DAY, LAST_INTERVAL, LAST_UNIT};
 
 #[derive(Clone, Copy, Debug, PartialEq, Eq)]
@@ -26,6 +26,21 @@ impl Interval {
     }
 }
 
+// A star, or an interval's number.
+impl TryFrom<Token<'_>> for Interval {
+    type Error = Fault;
+
+    ghost try_from_gives = { λ token r. r ≡ interval_by (seen token) };
+
+    fn try_from(token: Token<'_>) -> Result<Interval, Fault> {
+        match token {
+            Token::Nothing => Err(Fault::Form),
+            Token::Every => Ok(Interval::Every),
+            Token::Number(part) => ranged_number(part, 1, LAST_INTERVAL).map(Interval::At),
+        }
+    }
+}
+
 #[derive(Clone, Copy, Debug, PartialEq, Eq)]
 pub struct Key {
     pub day: u32,
@@ -33,19 +48,30 @@ pub struct Key {
     pub interval: Interval,
 }
 
+// What the first three fields of a value line say, or the fault of the first that is at fault.
+impl TryFrom<Fields<'_>> for Key {
+    type Error = Fault;
+
+    ghost try_from_gives = { λ fields r. r ≡ key_by fields.day.now fields.unit.now (token_of fields.interval.now) };
+
+    fn try_from(fields: Fields<'_>) -> Result<Key, Fault> {
+        Ok(Key {
+            day: day_of(fields.day)?,
+            unit: unit_of(fields.unit)?,
+            interval: Interval::try_from(Token::from(fields.interval))?,
+        })
+    }
+}
+
 // The number from `low` to `high` that one to five digits write.
 fn ranged_number(field: &[u8], low: u32, high: u32) -> Result<u32, Fault>
     ensures { result ≡ ranged low high field.now }
 {
-    match short_number(field) {
-        Some(n) => {
-            if n < low || n > high {
-                Err(Fault::Form)
-            } else {
-                Ok(n)
-            }
-        }
-        None => Err(Fault::Form),
+    let n = short_number(field).ok_or(Fault::Form)?;
+    if (low..=high).contains(&n) {
+        Ok(n)
+    } else {
+        Err(Fault::Form)
     }
 }
 
@@ -61,42 +87,4 @@ pub fn unit_of(field: &[u8]) -> Result<u32, Fault>
     ensures { result ≡ ranged 0 last_unit field.now }
 {
     ranged_number(field, 0, LAST_UNIT)
-}
-
-// A star, or an interval's number.
-pub fn interval_of(token: Token<'_>) -> Result<Interval, Fault>
-    ensures { result ≡ interval_by (seen token.entry) }
-{
-    match token {
-        Token::Nothing => Err(Fault::Form),
-        Token::Every => Ok(Interval::Every),
-        Token::Number(part) => {
-            let n = ranged_number(part, 1, LAST_INTERVAL)?;
-            Ok(Interval::At(n))
-        }
-    }
-}
-
-// What the first three fields of a value line say, and the fields after them.
-pub fn cut_key(line: &[u8]) -> (Result<Key, Fault>, &[u8])
-    ensures key { result.0 ≡ key_of line.now }
-    ensures left { result.1.now ≡ values_part line.now }
-{
-    let (first, rest) = cut_field(line);
-    let (second, rest) = cut_field(rest);
-    let (third, rest) = cut_token(rest);
-    (key_of(first, second, third), rest)
-}
-
-fn key_of(day: &[u8], unit: &[u8], interval: Token<'_>) -> Result<Key, Fault>
-    ensures { result ≡ key_by day.now unit.now (seen interval.entry) }
-{
-    let day = day_of(day)?;
-    let unit = unit_of(unit)?;
-    let interval = interval_of(interval)?;
-    Ok(Key {
-        day,
-        unit,
-        interval,
-    })
 }

@@ -3,7 +3,9 @@
 
 pub mod check;
 pub mod columns;
+pub mod fields;
 pub mod key;
+pub mod lines;
 pub mod names;
 pub mod refusal;
 pub mod values;

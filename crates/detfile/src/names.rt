@@ -1,41 +1,26 @@
 // The line of names.
-ghost use Rattle.std.specs.Prelude.{◌≡◌, ◌≤◌, []};
+ghost use Rattle.std.specs.Prelude.{◌≡◌, ◌≤◌, cond, [], Some, None};
 ghost use Rattle.std.specs.Option.{option_map};
 ghost use Rattle.detfile.specs.Keys.{values_part};
-ghost use Rattle.detfile.specs.Names.{columns_in, held, headed, names_on, names_of};
+ghost use Rattle.detfile.specs.Names.{columns_in, headed, names_on, names_of};
 
 use crate::columns::{Columns, MOST_COLUMNS};
+use crate::fields::Fields;
 use figures::cutting::{count_spaces, cut_field};
-use terms::bytes::same_bytes;
 use terms::determinant::Determinant;
 
 // The most bytes that a line may have before its line feed.
 pub const MOST_LINE: usize = 255;
 
-// Whether `d` is one of `some`.
-fn holds(some: &[Determinant], d: Determinant) -> bool
-    ensures { result ≡ held d some.now }
+// The names of the determinants, in a line that begins with the names of the day, the unit and the interval.
+fn cut_heading(line: &[u8]) -> Option<&[u8]>
+    ensures { option_map (λ names. names.now) result ≡ cond (headed line.now) (Some (values_part line.now)) None }
 {
-    for k in some {
-        if k.number() == d.number() {
-            return true;
-        }
-    }
-    false
-}
-
-// Whether a line begins with the names of the day, the unit and the interval, and the names after them.
-fn cut_heading(line: &[u8]) -> (bool, &[u8])
-    ensures heading { result.0 ≡ headed line.now }
-    ensures left { result.1.now ≡ values_part line.now }
-{
-    let (first, rest) = cut_field(line);
-    let (second, rest) = cut_field(rest);
-    let (third, rest) = cut_field(rest);
-    let heading = same_bytes(first, b"DAY")
-        && same_bytes(second, b"UNIT")
-        && same_bytes(third, b"INT");
-    (heading, rest)
+    let fields = Fields::cut(line);
+    let is_heading = fields.day == b"DAY".as_slice()
+        && fields.unit == b"UNIT".as_slice()
+        && fields.interval == b"INT".as_slice();
+    is_heading.then_some(fields.values)
 }
 
 // The determinants of `count` names.
@@ -43,20 +28,18 @@ fn read_names(names: &[u8], count: usize) -> Option<Columns>
     requires { count ≤ 13 }
     ensures { option_map columns_in result ≡ names_on count [] names.now }
 {
-    let mut determinants = [Determinant::Owner; MOST_COLUMNS];
+    let mut columns = Columns::none();
     let mut rest = names;
-    for i in 0..count {
+    for _ in 0..count {
         let (name, after) = cut_field(rest);
-        let Some(d) = Determinant::from_name(name) else {
-            return None;
-        };
-        if holds(&determinants[0..i], d) {
+        let determinant = Determinant::try_from(name).ok()?;
+        if columns.contains(determinant) {
             return None;
         }
-        determinants[i] = d;
+        columns.push(determinant);
         rest = after;
     }
-    Some(Columns::first(determinants, count))
+    Some(columns)
 }
 
 // The determinants that a line of names has, where it is one.
@@ -74,10 +57,5 @@ pub fn columns_of(line: &[u8]) -> Option<Columns>
     if spaces > MOST_COLUMNS + 2 {
         return None;
     }
-    let (heading, names) = cut_heading(line);
-    if heading {
-        read_names(names, spaces - 2)
-    } else {
-        None
-    }
+    read_names(cut_heading(line)?, spaces - 2)
 }

@@ -40,9 +40,7 @@ impl FileRefusal {
         match self {
             FileRefusal::TooLong => 0,
             FileRefusal::Names => 1,
-            FileRefusal::Shape(line) => line,
-            FileRefusal::Form(line) => line,
-            FileRefusal::Beyond(line) => line,
+            FileRefusal::Shape(line) | FileRefusal::Form(line) | FileRefusal::Beyond(line) => line,
         }
     }
 

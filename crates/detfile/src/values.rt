@@ -3,7 +3,8 @@ ghost use Rattle.std.specs.Prelude.{◌≡◌, ◌≤◌, length};
 ghost use Rattle.figures.specs.Tokens.{seen};
 ghost use Rattle.detfile.specs.Values.{given_by, values_fault, fields_fault, line_judged};
 
-use crate::key::cut_key;
+use crate::fields::Fields;
+use crate::key::Key;
 use crate::names::MOST_LINE;
 use crate::refusal::FileRefusal;
 use figures::cutting::count_spaces;
@@ -18,10 +19,7 @@ pub fn given_value(token: Token<'_>, determinant: Determinant) -> Result<Option<
     match token {
         Token::Nothing => Ok(None),
         Token::Every => Err(Fault::Form),
-        Token::Number(part) => {
-            let n = stored_number(part, determinant)?;
-            Ok(Some(n))
-        }
+        Token::Number(part) => stored_number(part, determinant).map(Some),
     }
 }
 
@@ -42,11 +40,9 @@ fn check_values(columns: &[Determinant], fields: &[u8]) -> Result<(), Fault>
 fn check_fields(columns: &[Determinant], line: &[u8]) -> Result<(), Fault>
     ensures { result ≡ fields_fault columns.now line.now }
 {
-    let (key, rest) = cut_key(line);
-    match key {
-        Err(fault) => Err(fault),
-        Ok(_) => check_values(columns, rest),
-    }
+    let fields = Fields::cut(line);
+    Key::try_from(fields)?;
+    check_values(columns, fields.values)
 }
 
 // Checks a value line, which is line `number` of the file.
@@ -61,8 +57,5 @@ pub(crate) fn check_line(
     if line.len() > MOST_LINE || count_spaces(line) != columns.len() + 2 {
         return Err(FileRefusal::Shape(number));
     }
-    match check_fields(columns, line) {
-        Err(fault) => Err(FileRefusal::at(fault, number)),
-        Ok(_) => Ok(()),
-    }
+    check_fields(columns, line).map_err(|fault| FileRefusal::at(fault, number))
 }

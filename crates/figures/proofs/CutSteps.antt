@@ -1,20 +1,35 @@
 -- One step of the walk to a mark, and where the parts of a cut stand.
-use Rattle.std.proofs.Common.{◌≡◌, ℕ, ◌+◌, ◌<◌, ◌≤◌, Bool, true, false, cond, eqb, List, [], ◌∷◌, ◌++◌, length, get_or, take, drop, Some, None, sym, refl, ap, ◌∙◌, append_assoc, arith}
-use Rattle.std.proofs.lemmas.List.{at_drop_more, at_drop_all, take_more, take_all, drop_all, take_at, drop_at, length_push}
-use Rattle.std.proofs.lemmas.Bool.{cond-true, cond-false, eq-eqb, ne_eqb, eqb-true}
-use Rattle.figures.specs.Cuts.{cut, cut_on, Placed}
+use Rattle.std.proofs.Common.{◌≡◌, ℕ, suc, ◌+◌, Bool, true, false, not, cond, eqb, ltb, List, [], ◌∷◌, ◌++◌, length, take, drop, Some, None, Option, sym, refl, ap, ◌∙◌, append_assoc, append-nil, add-one, arith}
+use Rattle.std.specs.List.{position, position_or_len}
+use Rattle.std.specs.Option.{option_map}
+use Rattle.std.proofs.lemmas.List.{take_all, drop_all, take_at, drop_at, length_push}
+use Rattle.std.proofs.lemmas.Bool.{eqb-true, lt-ltb}
+use Prim.Native.Nat.compare
+use Rattle.figures.specs.Cuts.{cut, cut_on, before, beyond, first_field, past_field, Placed}
 
-module _ (m : ℕ) (bs : List ℕ) (i : ℕ) where
-  pub cut_found : i < length bs → get_or bs i 0 ≡ m → cut_on m (take i bs) (drop i bs) ≡ Some (take i bs, drop (i + 1) bs)
-  cut_found h e = at_drop_more (cut_on m (take i bs)) bs i 0 h ∙ cond-true _ _ _ (eq-eqb _ _ e)
+-- a cut is made at the first place of the mark
+abbrev parts_at : List ℕ → List ℕ → ℕ → List ℕ × List ℕ
+parts_at front bs i = (front ++ take i bs, drop (suc i) bs)
 
-  pub cut_more : i < length bs → (get_or bs i 0 ≡ m → ⊥) → cut_on m (take i bs) (drop i bs) ≡ cut_on m (take (i + 1) bs) (drop (i + 1) bs)
-  cut_more h e =
-      at_drop_more (cut_on m (take i bs)) bs i 0 h ∙ cond-false _ _ _ (ne_eqb _ _ e)
-      ∙ ap (λ f. cut_on m f (drop (i + 1) bs)) (sym (take_more bs i 0 h))
+part_next : (t : Bool) (front : List ℕ) (b k : ℕ) (bs : List ℕ) → option_map (parts_at (front ++ b ∷ []) bs) (cond t (Some k) None) ≡ option_map (parts_at front (b ∷ bs)) (cond t (Some (suc k)) None)
+part_next true front b k bs = ap (λ (l : List ℕ). Some (l, drop (suc k) bs)) (append_assoc front (b ∷ []) (take k bs))
+part_next false front b k bs = refl
 
-  pub cut_all : length bs ≤ i → cut_on m (take i bs) (drop i bs) ≡ None
-  cut_all h = at_drop_all (cut_on m (take i bs)) bs i h
+cut_place : (m : ℕ) (front bs : List ℕ) → cut_on m front bs ≡ option_map (parts_at front bs) (position (λ b. eqb b m) bs)
+cut_place m front [] = refl
+cut_place m front (b ∷ bs) =
+    let n = position_or_len (λ x. eqb x m) bs in
+    let next : 1 + n ≡ suc n = omega arith in
+    elim (eqb b m) as (λ t. cond t (Some (front, bs)) (cut_on m (front ++ b ∷ []) bs) ≡ option_map (parts_at front (b ∷ bs)) (cond (ltb (cond (not t) (1 + n) 0) (length (b ∷ bs))) (Some (cond (not t) (1 + n) 0)) None)) [
+      | true ↦ rw (lt-ltb 0 (suc (length bs)) (omega arith)) (ap (λ (l : List ℕ). Some (l, bs)) (sym (append-nil front)))
+      | false ↦ cut_place m (front ++ b ∷ []) bs ∙ rw (next, compare.suc-suc) (part_next (ltb n (length bs)) front b n bs)
+    ]
+
+pub cut_none : (m : ℕ) (bs : List ℕ) → position (λ b. eqb b m) bs ≡ None → cut m bs ≡ None
+cut_none m bs e = cut_place m [] bs ∙ ap (option_map (parts_at [] bs)) e
+
+pub cut_some : (m : ℕ) (bs : List ℕ) (i : ℕ) → position (λ b. eqb b m) bs ≡ Some i → cut m bs ≡ Some (take i bs, drop (i + 1) bs)
+cut_some m bs i e = rw add-one (cut_place m [] bs ∙ ap (option_map (parts_at [] bs)) e)
 
 -- what was passed in front of a cut and what is cut off make up the whole
 part_here : (m : ℕ) (front bs : List ℕ) (b : ℕ) (p : List ℕ × List ℕ) (t : Bool) → eqb b m ≡ t → (Some p ≡ cut_on m (front ++ b ∷ []) bs → (front ++ b ∷ []) ++ bs ≡ p.0 ++ m ∷ p.1) → Some p ≡ cond t (Some (front, bs)) (cut_on m (front ++ b ∷ []) bs) → front ++ b ∷ bs ≡ p.0 ++ m ∷ p.1
@@ -34,10 +49,14 @@ past_dropped : (m : ℕ) (xs ys : List ℕ) → drop (length xs + 1) (xs ++ m �
 past_dropped m xs ys =
     ap (drop (length xs + 1)) (sym (append_assoc xs (m ∷ []) ys)) ∙ drop_at (xs ++ m ∷ []) ys (length xs + 1) (length_push xs m)
 
-pub placed_cut : (m : ℕ) (bs : List ℕ) (p : List ℕ × List ℕ) → Some p ≡ cut m bs → Placed bs p.0 p.1
+placed_cut : (m : ℕ) (bs : List ℕ) (p : List ℕ × List ℕ) → Some p ≡ cut m bs → Placed bs p.0 p.1
 placed_cut m bs p e =
     let w = cut_parted m bs p e in
     record { front = sym (ap (take (length p.0)) w ∙ take_at p.0 (m ∷ p.1) (length p.0) refl); past = sym (ap (drop (length p.0 + 1)) w ∙ past_dropped m p.0 p.1) }
 
-pub placed_whole : (bs : List ℕ) → Placed bs bs []
-placed_whole bs = record { front = sym (take_all (length bs) bs (omega arith)); past = sym (drop_all (length bs + 1) bs (omega arith)) }
+placed_by : (bs : List ℕ) (o : Option (List ℕ × List ℕ)) → o ≡ cut 32 bs → Placed bs (before bs o) (beyond o)
+placed_by bs None e = record { front = sym (take_all (length bs) bs (omega arith)); past = sym (drop_all (length bs + 1) bs (omega arith)) }
+placed_by bs (Some p) e = placed_cut 32 bs p e
+
+pub placed : (bs : List ℕ) → Placed bs (first_field bs) (past_field bs)
+placed bs = placed_by bs (cut 32 bs) refl

@@ -1,3 +1,2 @@
 pub mod CutSteps
-pub mod NumberSteps
 pub mod Exactness

@@ -8,12 +8,8 @@ pub fn cut_at(bytes: &[u8], mark: u8) -> Option<(&[u8], &[u8])>
     ensures parts { option_map (λ p. (p.0.now, p.1.now)) result ≡ cut mark bytes.now }
     ensures shorter { IfSome result (λ p. length p.1.now < length bytes.now) }
 {
-    for i in 0..bytes.len() {
-        if bytes[i] == mark {
-            return Some((&bytes[0..i], &bytes[i + 1..]));
-        }
-    }
-    None
+    let at = bytes.iter().position(|b| *b == mark)?;
+    Some((&bytes[..at], &bytes[at + 1..]))
 }
 
 // The first field of a line, or of what is left of it, and what is left after that field and its space.
@@ -22,10 +18,7 @@ pub fn cut_field(line: &[u8]) -> (&[u8], &[u8])
     ensures left { result.1.now ≡ past_field line.now }
     ensures place { Placed line.now result.0.now result.1.now }
 {
-    match cut_at(line, b' ') {
-        Some((field, after)) => (field, after),
-        None => (line, &[]),
-    }
+    cut_at(line, b' ').unwrap_or((line, &[]))
 }
 
 // How many spaces a line has: one less than its fields.
@@ -33,11 +26,5 @@ pub fn count_spaces(line: &[u8]) -> usize
     ensures value { result ≡ spaces line.now }
     ensures bound { result ≤ length line.now }
 {
-    let mut n = 0;
-    for b in line {
-        if *b == b' ' {
-            n += 1;
-        }
-    }
-    n
+    line.iter().filter(|b| **b == b' ').count()
 }

@@ -12,15 +12,19 @@ pub enum Mark {
     Other,
 }
 
-pub fn mark_of(byte: u8) -> Mark
-    ensures value { result ≡ mark_of byte }
-    ensures small { Small result }
-{
-    match byte as char {
-        '*' => Mark::Star,
-        '-' => Mark::Dash,
-        '.' => Mark::Point,
-        '0'..='9' => Mark::Digit(byte - b'0'),
-        _ => Mark::Other,
+impl From<u8> for Mark {
+    ghost from_gives = { λ byte mark. mark ≡ mark_of byte };
+
+    fn from(byte: u8) -> Mark
+        ensures value { result ≡ mark_of byte }
+        ensures small { Small result }
+    {
+        match byte as char {
+            '*' => Mark::Star,
+            '-' => Mark::Dash,
+            '.' => Mark::Point,
+            '0'..='9' => Mark::Digit(byte - b'0'),
+            _ => Mark::Other,
+        }
     }
 }

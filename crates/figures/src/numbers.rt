@@ -1,10 +1,11 @@
 // Digits and figures.
-ghost use Rattle.std.specs.Prelude.{◌≡◌, ◌*◌, ◌^◌, ◌<◌, ◌≤◌, length, IfSome};
+ghost use Rattle.std.specs.Prelude.{◌≡◌, ◌*◌, ◌^◌, ◌<◌, ◌≤◌, length, false, unsigned_abs, IfSome, IfOk};
 ghost use Rattle.figures.specs.Numbers.{number_of, told, value_on, counted, magnitude, bounded, stored_by, stored, storing, Stores};
+ghost use Rattle.terms.specs.Limits.{most_stored};
 ghost use Rattle.terms.specs.Determinants.{decimals_of};
 
 use crate::cutting::cut_at;
-use crate::marks::{Mark, mark_of};
+use crate::marks::Mark;
 use terms::determinant::Determinant;
 use terms::question::MOST_STORED;
 
@@ -37,10 +38,10 @@ fn digits(field: &[u8]) -> Option<u64>
 {
     let mut n: u64 = 0;
     for b in field {
-        match mark_of(*b) {
-            Mark::Digit(d) => n = n * 10 + d as u64,
-            _ => return None,
-        }
+        let Mark::Digit(d) = Mark::from(*b) else {
+            return None;
+        };
+        n = n * 10 + d as u64;
     }
     Some(n)
 }
@@ -62,8 +63,7 @@ pub fn short_number(field: &[u8]) -> Option<u32>
     ensures value { result ≡ counted 5 field.now }
     ensures bound { IfSome result (λ n. n < 100000) }
 {
-    let n = number_of(field, 5)?;
-    Some(n as u32)
+    number_of(field, 5).map(|n| n as u32)
 }
 
 // `n` times ten to the number of `places`.
@@ -73,15 +73,7 @@ fn shifted(n: u64, places: usize) -> u64
     ensures value { result ≡ n * 10 ^ places }
     ensures bound { result ≤ n * 1000000 }
 {
-    match places {
-        0 => n,
-        1 => n * 10,
-        2 => n * 100,
-        3 => n * 1_000,
-        4 => n * 10_000,
-        5 => n * 100_000,
-        _ => n * 1_000_000,
-    }
+    n * 10u64.pow(places as u32)
 }
 
 // A figure with no sign, times ten to the number of `decimals`.
@@ -102,22 +94,16 @@ fn scaled(field: &[u8], decimals: usize) -> Option<u64>
     }
 }
 
-// A stored number of this size and sign, where it is not beyond the stored range.
-fn limited(size: Option<u64>, minus: bool) -> Result<i64, Fault>
-    ensures { result ≡ bounded minus size }
+// The stored number of a figure with no sign, where it is not beyond the stored range.
+fn limited(figure: Option<u64>) -> Result<i64, Fault>
+    ensures value { result ≡ bounded false figure }
+    ensures bound { IfOk result (λ z. unsigned_abs z ≤ most_stored) }
 {
-    match size {
-        None => Err(Fault::Form),
-        Some(n) => {
-            if n > MOST_STORED {
-                Err(Fault::Beyond)
-            } else if minus {
-                Ok(-(n as i64))
-            } else {
-                Ok(n as i64)
-            }
-        }
+    let size = figure.ok_or(Fault::Form)?;
+    if size > MOST_STORED {
+        return Err(Fault::Beyond);
     }
+    Ok(size as i64)
 }
 
 // A figure with an optional minus, times ten to the number of `decimals`.
@@ -126,8 +112,8 @@ fn signed_number(field: &[u8], decimals: usize) -> Result<i64, Fault>
     ensures { result ≡ stored_by decimals field.now }
 {
     match field {
-        [b'-', rest @ ..] => limited(scaled(rest, decimals), true),
-        unsigned => limited(scaled(unsigned, decimals), false),
+        [b'-', rest @ ..] => Ok(-limited(scaled(rest, decimals))?),
+        unsigned => limited(scaled(unsigned, decimals)),
     }
 }
 

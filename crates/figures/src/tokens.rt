@@ -4,7 +4,7 @@ ghost use Rattle.figures.specs.Cuts.{first_field, past_field, Placed};
 ghost use Rattle.figures.specs.Tokens.{seen, token_of, spelt};
 
 use crate::cutting::cut_field;
-use crate::marks::{Mark, mark_of};
+use crate::marks::Mark;
 
 // Nothing given, every interval, or the part of the line that should be a number.
 #[derive(Clone, Copy)]
@@ -15,16 +15,18 @@ pub enum Token<'a> {
 }
 
 // A dash, a star, or else the whole field.
-pub fn token_of(field: &[u8]) -> Token<'_>
-    ensures { seen result ≡ token_of field.now }
-{
-    match field {
-        [byte] => match mark_of(*byte) {
-            Mark::Dash => Token::Nothing,
-            Mark::Star => Token::Every,
+impl<'a> From<&'a [u8]> for Token<'a> {
+    ghost from_gives = { λ field token. seen token ≡ token_of field.now };
+
+    fn from(field: &'a [u8]) -> Token<'a> {
+        match field {
+            [byte] => match Mark::from(*byte) {
+                Mark::Dash => Token::Nothing,
+                Mark::Star => Token::Every,
+                _ => Token::Number(field),
+            },
             _ => Token::Number(field),
-        },
-        _ => Token::Number(field),
+        }
     }
 }
 
@@ -36,5 +38,5 @@ pub fn cut_token(line: &[u8]) -> (Token<'_>, &[u8])
     ensures place { Placed line.now (spelt (seen result.0)) result.1.now }
 {
     let (field, after) = cut_field(line);
-    (token_of(field), after)
+    (Token::from(field), after)
 }

@@ -1,3 +1,4 @@
 pub mod Parts
+pub mod Contents
 pub mod Asks
 pub mod AsksKept

@@ -1,7 +1,6 @@
 -- The columns and the value lines of a file. Assumes nothing.
-use Rattle.std.specs.Prelude.{ℕ, cond, List, [], map, is_ok, Some, None, Option}
+use Rattle.std.specs.Prelude.{ℕ, cond, List, [], is_ok, Some, None, Option}
 use Rattle.terms.specs.declared.determinant.Determinant.{Determinant}
-use Rattle.terms.specs.Determinants.{number_of}
 use Rattle.figures.specs.Cuts.{cut}
 use Rattle.detfile.specs.Files.{judged}
 use Rattle.detfile.specs.Lines.{Line, lines}
@@ -28,7 +27,3 @@ values bs = cond (is_ok (judged bs)) (values_from (cut 10 bs)) []
 
 abbrev pub value_lines : List ℕ → List Line
 value_lines bs = lines (values bs)
-
--- columns by their numbers, which tell them apart
-abbrev pub numbers : List Determinant → List ℕ
-numbers ks = map number_of ks

@@ -1,50 +1,68 @@
 // A determinant file that was checked.
-ghost use Rattle.std.specs.Prelude.{◌≡◌, false, take, is_ok};
+ghost use Rattle.std.specs.Prelude.{◌≡◌};
+ghost use Rattle.std.specs.Result.{ForOk};
 ghost use Rattle.detfile.specs.Files.{judged};
-ghost use Rattle.filesource.specs.Parts.{numbers, columns as columns_of, values as values_of};
+ghost use Rattle.detfile.specs.Names.{columns_in};
+ghost use Rattle.filesource.specs.Parts.{columns, values};
+ghost use Rattle.filesource.specs.Contents.{counted};
 
+use detfile::check::{check_file, cut_line};
 use detfile::columns::Columns;
+use detfile::names::columns_of;
 use detfile::refusal::FileRefusal;
 
-// The caller's bytes with what the check found: the verdict, and the columns and value lines, none where the file is refused.
+// What the check finds in an accepted file: how many value lines it has, its columns, and the value lines.
+#[derive(Clone, Copy)]
+pub(crate) struct Content<'a> {
+    pub(crate) count: u32,
+    pub(crate) columns: Columns,
+    pub(crate) values: &'a [u8],
+}
+
+// The caller's bytes with what the check found in them, or why it refuses them.
 #[derive(Clone, Copy)]
 pub struct FileSource<'a> {
     pub(crate) bytes: &'a [u8],
-    pub(crate) verdict: Result<u32, FileRefusal>,
-    pub(crate) columns: Columns,
-    pub(crate) values: &'a [u8],
-    ghost told: { verdict ≡ judged bytes.now },
-    ghost headed: { numbers (take columns.count columns.determinants) ≡ numbers (columns_of bytes.now) },
-    ghost valued: { values.now ≡ values_of bytes.now },
+    pub(crate) content: Result<Content<'a>, FileRefusal>,
+    ghost told: { counted content ≡ judged bytes.now },
+    ghost headed: { ForOk content (λ c. columns_in c.columns ≡ columns bytes.now) },
+    ghost valued: { ForOk content (λ c. c.values.now ≡ values bytes.now) },
+}
+
+// What is found in the bytes.
+fn content_of(bytes: &[u8]) -> Result<Content<'_>, FileRefusal>
+    ensures told { counted result ≡ judged bytes.now }
+    ensures headed { ForOk result (λ c. columns_in c.columns ≡ columns bytes.now) }
+    ensures valued { ForOk result (λ c. c.values.now ≡ values bytes.now) }
+{
+    let count = check_file(bytes)?;
+    let (names, values) = cut_line(bytes).ok_or(FileRefusal::Names)?;
+    let columns = columns_of(names).ok_or(FileRefusal::Names)?;
+    Ok(Content {
+        count,
+        columns,
+        values,
+    })
 }
 
 impl<'a> FileSource<'a> {
-    // An accepted file, with its columns and value lines.
-    pub(crate) fn open(
-        bytes: &'a [u8],
-        verdict: Result<u32, FileRefusal>,
-        columns: Columns,
-        values: &'a [u8],
-    ) -> FileSource<'a>
-        requires told { verdict ≡ judged bytes.now }
-        requires headed { numbers (take columns.count columns.determinants) ≡ numbers (columns_of bytes.now) }
-        requires valued { values.now ≡ values_of bytes.now }
+    ghost use Rattle.detfile.specs.Files.{checked};
+    ghost use Rattle.detfile.specs.Refusals.{told};
+
+    // Checks the bytes, once.
+    pub fn new(bytes: &'a [u8]) -> FileSource<'a>
         ensures { result.bytes.now ≡ bytes.now }
     {
         FileSource {
             bytes,
-            verdict,
-            columns,
-            values,
+            content: content_of(bytes),
         }
     }
 
-    // A refused file.
-    pub(crate) fn closed(bytes: &'a [u8], verdict: Result<u32, FileRefusal>) -> FileSource<'a>
-        requires told { verdict ≡ judged bytes.now }
-        requires refused { is_ok verdict ≡ false }
-        ensures { result.bytes.now ≡ bytes.now }
+    // How many value lines the file has, or why it is refused.
+    pub fn verdict(&self) -> Result<u32, FileRefusal>
+        ensures { told result ≡ checked self.now.bytes.now }
     {
-        FileSource::open(bytes, verdict, Columns::none(), &[])
+        self.content.map(|content| content.count)
     }
 }

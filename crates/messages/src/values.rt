@@ -6,7 +6,7 @@ use detfile::names::MOST_LINE;
 use detfile::values::given_value;
 use figures::cutting::{count_spaces, cut_field};
 use figures::numbers::Fault;
-use figures::tokens::token_of;
+use figures::tokens::Token;
 use std::alloc::{AllocError, Global};
 use terms::determinant::Determinant;
 use terms::question::{LAST_DAY, LAST_INTERVAL, LAST_UNIT, MOST_STORED};
@@ -44,7 +44,7 @@ pub(crate) fn explain_fields(
     if unit_of(unit).is_err() {
         return explain_key(heap, "2, UNIT", unit, "", 0, LAST_UNIT);
     }
-    if interval_of(token_of(interval)).is_err() {
+    if interval_of(Token::from(interval)).is_err() {
         return explain_key(heap, "3, INT", interval, "* or ", 1, LAST_INTERVAL);
     }
     explain_values(heap, columns, rest)
@@ -72,7 +72,7 @@ fn explain_values(
     let mut rest = values;
     for (i, d) in columns.iter().enumerate() {
         let (field, after) = cut_field(rest);
-        if let Err(fault) = given_value(token_of(field), *d) {
+        if let Err(fault) = given_value(Token::from(field), *d) {
             return explain_value(heap, i.saturating_add(4), field, *d, fault);
         }
         rest = after;

@@ -1,6 +1,6 @@
-use Rattle.std.proofs.Common.{◌≡◌, ◌-◌, [], length, take}
-use Rattle.detfile.specs.Names.{names_on}
+use Rattle.std.proofs.Common.{◌≡◌, ◌-◌, []}
+use Rattle.detfile.specs.Names.{columns_in, names_on}
 use Rattle.detfile.proofs.names.read_names.Given as goal
 
-abbrev pub invariant-loop-i : goal.invariant-loop-i
-invariant-loop-i l = (names_on (l.count - l.i) (take l.i l.determinants) l.rest ≡ names_on l.count [] l.names) × (length l.determinants ≡ 13)
+abbrev pub invariant-loop : goal.invariant-loop
+invariant-loop l = (names_on (l.count - l.counter) (columns_in l.columns) l.rest ≡ names_on l.count [] l.names) × (l.columns.count ≡ l.counter)

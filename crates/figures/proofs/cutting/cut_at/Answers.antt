@@ -1,13 +1,20 @@
-use Rattle.std.proofs.Common.{rules}
+use Rattle.std.proofs.Common.{eqb, sym, ◌∙◌, rules, tests}
 use Rattle.std.proofs.lemmas.List.{take_rest}
-use Rattle.figures.proofs.CutSteps.{cut_found, cut_more, cut_all}
+use Rattle.std.proofs.lemmas.Iterator.{YieldsList-from_slice}
+use Rattle.std.proofs.lemmas.Iterator.Search.{position_from_yields_List}
+use Rattle.figures.proofs.CutSteps.{cut_none, cut_some}
 use Rattle.figures.proofs.cutting.cut_at.Goals as goal
 
-pub returns-then-bytes-i : goal.returns-then-bytes-i
-returns-then-bytes-i c = search (rules, take_rest, cut_found)
+pub returns-in_err-at-clause-parts : goal.returns-in_err-at-clause-parts
+returns-in_err-at-clause-parts c =
+    let m = c.args.mark in
+    let bs = c.args.bytes.now in
+    let e = position_from_yields_List (λ b. eqb b m) _ _ c.position.result c.position.ensures.ran (YieldsList-from_slice bs cc) (λ x b q k. search (rules, tests)) in
+    rw c.from_residual.ensures (sym (cut_none m bs (sym e ∙ c.in_err-at.was)))
 
-pub loop-i-preserved : goal.loop-i-preserved
-loop-i-preserved c = search (rules, cut_more)
-
-pub returns : goal.returns
-returns c = search (rules, cut_all)
+pub returns-clause-parts : goal.returns-clause-parts
+returns-clause-parts c =
+    let m = c.args.mark in
+    let bs = c.args.bytes.now in
+    let e = position_from_yields_List (λ b. eqb b m) _ _ c.position.result c.position.ensures.ran (YieldsList-from_slice bs cc) (λ x b q k. search (rules, tests)) in
+    rw (take_rest, cut_some m bs c.in_ok-at.at (sym e ∙ c.in_ok-at.was))

@@ -1,14 +1,11 @@
-use Rattle.std.proofs.Common.{ap}
-use Rattle.figures.specs.Cuts.{before, beyond}
-use Rattle.figures.proofs.CutSteps.{placed_cut, placed_whole}
+use Rattle.std.proofs.Common.{◌≡◌, arith}
+use Rattle.std.proofs.lemmas.Grind.{common_steps}
+use Rattle.figures.specs.Cuts.{first_field, past_field}
+use Rattle.figures.proofs.CutSteps.{placed}
 use Rattle.figures.proofs.cutting.cut_field.Goals as goal
 
-pub returns-in-Some : goal.returns-in-Some
-returns-in-Some c =
-    let e = c.in-Some.ensures.parts in
-    record { field = ap (before c.args.line.now) e; left = ap beyond e; place = placed_cut 32 c.args.line.now _ e }
-
-pub returns-in-None : goal.returns-in-None
-returns-in-None c =
-    let e = c.in-None.ensures.parts in
-    record { field = ap (before c.args.line.now) e; left = ap beyond e; place = placed_whole c.args.line.now }
+pub returns-clause-place : goal.returns-clause-place
+returns-clause-place c =
+    let field : c.unwrap_or.result.0.now ≡ first_field c.args.line.now = grind (arith, common_steps) in
+    let left : c.unwrap_or.result.1.now ≡ past_field c.args.line.now = grind (arith, common_steps) in
+    rw (field, left) (placed c.args.line.now)
