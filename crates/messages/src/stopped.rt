@@ -10,7 +10,7 @@ use terms::question::{ENTITIES, Question, Slot};
 use terms::source::Source;
 
 // The source of a run and where the run stopped.
-#[derive(Clone, Copy)]
+#[derive_where(Clone, Copy)]
 pub struct Sentence<'a, S> {
     pub source: &'a S,
     pub stop: Stop,
