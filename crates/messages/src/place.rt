@@ -1,4 +1,5 @@
 // A determinant and whose it is.
+use intervals::fault::Fault;
 use std::fmt;
 use terms::determinant::Determinant;
 
@@ -7,6 +8,16 @@ use terms::determinant::Determinant;
 pub(crate) struct Place {
     pub(crate) determinant: Determinant,
     pub(crate) unit: u32,
+}
+
+// The question at which a run stopped.
+impl From<Fault> for Place {
+    fn from(fault: Fault) -> Place {
+        Place {
+            determinant: fault.determinant,
+            unit: fault.unit,
+        }
+    }
 }
 
 impl fmt::Display for Place {

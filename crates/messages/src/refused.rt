@@ -4,6 +4,7 @@ use crate::names::{write_names_fault, write_no_names};
 use crate::values::{write_field_fault, write_shape_fault};
 use detfile::check::{MOST_BYTES, cut_line};
 use detfile::columns::Columns;
+use detfile::lines::{Line, Lines};
 use detfile::names::columns_of;
 use detfile::refusal::FileRefusal;
 use std::fmt;
@@ -38,10 +39,10 @@ impl fmt::Display for Sentence<'_> {
 impl<'a> Sentence<'a> {
     // A line by its number, from 1; none where no line feed ends it.
     fn line(&self, number: u32) -> Option<&'a [u8]> {
-        let mut lines = self.bytes.split_inclusive(|b| *b == b'\n');
-        lines
-            .nth(number.saturating_sub(1) as usize)?
-            .strip_suffix(b"\n")
+        match Lines::new(self.bytes).nth(number.saturating_sub(1) as usize)? {
+            Line::Ended(line) => Some(line),
+            Line::Unended(_) => None,
+        }
     }
 
     fn columns(&self) -> Columns {

@@ -18,7 +18,7 @@ pub struct Sentence<'a, S> {
 
 impl<S: Source> fmt::Display for Sentence<'_, S> {
     fn fmt<W: fmt::Write>(&self, f: &mut fmt::Formatter<W>) -> fmt::Result {
-        match self.stop.cause {
+        match self.stop.fault.cause {
             Cause::Missing => self.write_missing(f),
             Cause::OutOfRange => self.write_range(f),
             Cause::Shares => self.write_shares(f),
@@ -27,32 +27,16 @@ impl<S: Source> fmt::Display for Sentence<'_, S> {
 }
 
 impl<S: Source> Sentence<'_, S> {
-    fn place(&self) -> Place {
-        Place {
-            determinant: self.stop.determinant,
-            unit: self.stop.unit,
-        }
-    }
-
     // What the source answers of a determinant and unit in the interval.
     fn ask(&self, determinant: Determinant, unit: u32) -> Answer {
-        let slot = Slot {
-            day: self.stop.day,
-            interval: self.stop.interval,
-        };
-        self.source.ask(Question::about(determinant, unit, slot))
+        self.source
+            .ask(Question::about(determinant, unit, self.stop.slot))
     }
 
     fn write_missing<W: fmt::Write>(&self, f: &mut fmt::Formatter<W>) -> fmt::Result {
-        let Stop {
-            determinant,
-            unit,
-            day,
-            interval,
-            ..
-        } = self.stop;
-        let place = self.place();
-        let lack = match self.ask(determinant, unit) {
+        let place = Place::from(self.stop.fault);
+        let Slot { day, interval } = self.stop.slot;
+        let lack = match self.ask(place.determinant, place.unit) {
             Answer::Null => "only for other intervals of that day",
             _ => "for no interval of that day",
         };
@@ -63,30 +47,24 @@ impl<S: Source> Sentence<'_, S> {
     }
 
     fn write_range<W: fmt::Write>(&self, f: &mut fmt::Formatter<W>) -> fmt::Result {
-        let Stop {
-            determinant,
-            unit,
-            day,
-            interval,
-            ..
-        } = self.stop;
-        let place = self.place();
+        let place = Place::from(self.stop.fault);
+        let Slot { day, interval } = self.stop.slot;
         write!(f, "{place} on day {day} in interval {interval} is ")?;
-        match self.ask(determinant, unit) {
+        match self.ask(place.determinant, place.unit) {
             Answer::Figure(stored) => {
                 let figure = Figure {
                     stored,
-                    determinant,
+                    determinant: place.determinant,
                 };
                 write!(f, "{figure} (stored {stored})")?;
             }
             _ => f.write_str("missing")?,
         }
-        write_expected(f, determinant)
+        write_expected(f, place.determinant)
     }
 
     fn write_shares<W: fmt::Write>(&self, f: &mut fmt::Formatter<W>) -> fmt::Result {
-        let Stop { day, interval, .. } = self.stop;
+        let Slot { day, interval } = self.stop.slot;
         let shares = Determinant::Lrs;
         let sum = self.sum_of_shares();
         write!(

@@ -1,11 +1,12 @@
 // What is wrong with a value line.
 use crate::quotes::{Quoted, is_space};
-use detfile::key::{day_of, interval_of, unit_of};
+use detfile::fields::Fields;
+use detfile::key::{Interval, day_of, unit_of};
 use detfile::names::MOST_LINE;
 use detfile::values::given_value;
-use figures::cutting::{count_spaces, cut_field};
+use figures::cutting::count_spaces;
 use figures::numbers::Fault;
-use figures::tokens::token_of;
+use figures::tokens::Token;
 use std::fmt;
 use terms::determinant::Determinant;
 use terms::question::{LAST_DAY, LAST_INTERVAL, LAST_UNIT, MOST_STORED};
@@ -36,9 +37,12 @@ pub(crate) fn write_field_fault<W: fmt::Write>(
     columns: &[Determinant],
     line: &[u8],
 ) -> fmt::Result {
-    let (day, rest) = cut_field(line);
-    let (unit, rest) = cut_field(rest);
-    let (interval, values) = cut_field(rest);
+    let Fields {
+        day,
+        unit,
+        interval,
+        values,
+    } = Fields::cut(line);
     if day_of(day).is_err() {
         let found = Quoted(day);
         write!(
@@ -51,7 +55,7 @@ pub(crate) fn write_field_fault<W: fmt::Write>(
             f,
             "field 2, UNIT, is {found}; expected one to five digits, from 0 to {LAST_UNIT}"
         )
-    } else if interval_of(token_of(interval)).is_err() {
+    } else if Interval::try_from(Token::from(interval)).is_err() {
         let found = Quoted(interval);
         write!(
             f,
@@ -69,7 +73,7 @@ fn write_value_fault<W: fmt::Write>(
 ) -> fmt::Result {
     let fields = values.split(is_space);
     for (i, (determinant, field)) in columns.iter().zip(fields).enumerate() {
-        if let Err(fault) = given_value(token_of(field), *determinant) {
+        if let Err(fault) = given_value(Token::from(field), *determinant) {
             let at = i + 4;
             let found = Quoted(field);
             write!(f, "field {at}, {determinant}, is {found}; ")?;

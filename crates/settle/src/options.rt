@@ -1,5 +1,5 @@
 // The options of `settle work`.
-use rounding::rules::Rule;
+use rounding::rules::{NoRule, Rule};
 use std::fmt;
 
 #[derive(Clone, Copy)]
@@ -12,7 +12,7 @@ pub(crate) struct Options {
 #[derive(Clone, Copy)]
 pub(crate) enum OptionFault<'a> {
     Unknown(&'a str),
-    NoRule(&'a str),
+    NoRule(&'a str, NoRule),
     RuleMissing,
 }
 
@@ -23,9 +23,7 @@ impl fmt::Display for OptionFault<'_> {
                 f,
                 "{word} is no option of work; allowed are --rule away, --rule even and --fill"
             ),
-            OptionFault::NoRule(word) => {
-                write!(f, "{word} is no rounding rule; allowed are away and even")
-            }
+            OptionFault::NoRule(word, fault) => write!(f, "{word} is {fault}"),
             OptionFault::RuleMissing => write!(
                 f,
                 "--rule wants a rounding rule after it; allowed are away and even"
@@ -46,7 +44,7 @@ impl Options {
             match word {
                 "--rule" => {
                     let name = words.next().ok_or(OptionFault::RuleMissing)?;
-                    options.rule = name.parse().map_err(|_| OptionFault::NoRule(name))?;
+                    options.rule = name.parse().map_err(|fault| OptionFault::NoRule(name, fault))?;
                 }
                 "--fill" => options.fill = true,
                 _ => return Err(OptionFault::Unknown(word)),

@@ -3,7 +3,6 @@ use crate::console::Console;
 use crate::options::Options;
 use crate::words::number_of;
 use filesource::source::FileSource;
-use intervals::fault::Stop;
 use intervals::warning::Warning;
 use messages::{stopped, warned};
 use rounding::rule::Rounding;
@@ -12,6 +11,7 @@ use runs::refusal::{DayRefusal, IntervalRefusal};
 use runs::run::Run;
 use runs::working::WARNING_ROWS;
 use sources::fill::ZeroFill;
+use std::fmt::Display;
 use std::io;
 use std::rt::{Clock, Files};
 use std::time::Instant;
@@ -110,18 +110,27 @@ impl<R: Files + Clock + Print + Eprint + AllocGlobal> Console<'_, R> {
                 self.say_warnings(rows, worked.warnings)?;
                 Ok(true)
             }
+            Err(refusal @ IntervalRefusal::Halted(stop)) => {
+                self.say_warnings(rows, stop.warnings)?;
+                let why = stopped::Sentence { source, stop };
+                self.say_stopped(interval, refusal, why)?;
+                Ok(false)
+            }
             Err(refusal) => {
-                let stop = stop_of(refusal);
-                self.say_warnings(rows, stop.map_or(0, |stop| stop.warnings))?;
-                let answer = refusal.number();
-                print!(self.rt; "stopped, answer {answer} at interval {interval}: ")?;
-                match stop {
-                    Some(stop) => self.rt.println(stopped::Sentence { source, stop })?,
-                    None => self.rt.println(OUT_OF_TURN)?,
-                }
+                self.say_stopped(interval, refusal, OUT_OF_TURN)?;
                 Ok(false)
             }
         }
+    }
+
+    fn say_stopped(
+        &self,
+        interval: u32,
+        refusal: IntervalRefusal,
+        why: impl Display + Drop,
+    ) -> io::Result<()> {
+        let answer = refusal.number();
+        println!(self.rt; "stopped, answer {answer} at interval {interval}: {why}")
     }
 
     // The first `count` rows.
@@ -140,13 +149,5 @@ impl<R: Files + Clock + Print + Eprint + AllocGlobal> Console<'_, R> {
             self.hint(format_args!("settle: hour {hour} of 24 done"))?;
         }
         Ok(())
-    }
-}
-
-// Where the asking ended; none where the interval was not worked at all.
-fn stop_of(refusal: IntervalRefusal) -> Option<Stop> {
-    match refusal {
-        IntervalRefusal::Halted(stop) => Some(stop),
-        IntervalRefusal::Stopped | IntervalRefusal::NotDue | IntervalRefusal::FewRows => None,
     }
 }
