@@ -10,7 +10,7 @@ use detfile::refusal::FileRefusal;
 use std::fmt;
 
 // The bytes of a file and why they are refused.
-#[derive(Clone, Copy)]
+#[derive(Clone, Copy, Debug, PartialEq, Eq)]
 pub struct Sentence<'a> {
     pub bytes: &'a [u8],
     pub refusal: FileRefusal,

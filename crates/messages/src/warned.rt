@@ -4,7 +4,7 @@ use intervals::warning::Warning;
 use std::fmt;
 use terms::determinant::Determinant;
 
-#[derive(Clone, Copy)]
+#[derive(Clone, Copy, Debug, PartialEq, Eq)]
 pub struct Sentence<'a>(pub &'a Warning);
 
 impl fmt::Display for Sentence<'_> {

@@ -44,7 +44,9 @@ impl Options {
             match word {
                 "--rule" => {
                     let name = words.next().ok_or(OptionFault::RuleMissing)?;
-                    options.rule = name.parse().map_err(|fault| OptionFault::NoRule(name, fault))?;
+                    options.rule = name
+                        .parse()
+                        .map_err(|fault| OptionFault::NoRule(name, fault))?;
                 }
                 "--fill" => options.fill = true,
                 _ => return Err(OptionFault::Unknown(word)),
