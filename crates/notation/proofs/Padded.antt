@@ -1,5 +1,5 @@
 -- Digits behind zeros are the last digits of a number.
-use Rattle.std.proofs.Common.{◌≡◌, ℕ, zero, suc, ◌+◌, ◌-◌, ◌*◌, ◌/◌, ◌%◌, ◌^◌, ◌<◌, false, List, [], ◌∷◌, ◌++◌, length, sym, refl, ap, ◌∙◌, append_assoc, arith, inl, inr, ℤ, pos, negsuc}
+use Rattle.std.proofs.Common.{◌≡◌, ℕ, zero, suc, ◌+◌, ◌-◌, ◌*◌, ◌/◌, ◌%◌, ◌^◌, ◌<◌, List, [], ◌∷◌, ◌++◌, length, sym, refl, ap, ◌∙◌, append_assoc, arith, inl, inr, ℤ, pos, negsuc}
 use Rattle.std.specs.Prelude.{replicate, decimal, codes, unsigned_abs}
 use Rattle.std.specs.Fmt.{padded_integral, format_spec, char_count, styled_decimal}
 use Rattle.std.proofs.Math.Nat.{div-div-eq-div-mul, pow-suc, pow-succ', one-le-pow, mod-le}
@@ -14,20 +14,16 @@ use Rattle.notation.specs.Figures.{last_digits, pointed, figure_of}
 abbrev pub behind_zeros : ℕ → List ℕ → List ℕ
 behind_zeros k ds = replicate (k - length ds) 48 ++ ds
 
--- what `{:0k$}` writes of a number with these digits
-padded_zeros : (k : ℕ) (ds : List ℕ) → padded_integral (format_spec 32 0 4 k (2 ^ 64 - 1)) false [] ds ≡ behind_zeros k ds
+-- what `{:0k$}` writes of a number
+padded_zeros : (k n : ℕ) → styled_decimal (format_spec 32 0 4 (suc k) (2 ^ 64 - 1)) n ≡ behind_zeros (suc k) (decimal n)
 unfolding padded_integral char_count
-padded_zeros k ds = grind (arith, common_steps)
-
-zero_more : (k : ℕ) → replicate {A = ℕ} (suc k) 48 ≡ replicate k 48 ++ (48 ∷ [])
-zero_more zero = refl
-zero_more (suc k) = ap (λ (l : List ℕ). 48 ∷ l) (zero_more k)
+padded_zeros k n = grind (arith, common_steps)
 
 behind_push : (k : ℕ) (ds : List ℕ) (d : ℕ) → behind_zeros (suc k) (ds ++ (d ∷ [])) ≡ behind_zeros k ds ++ (d ∷ [])
 behind_push k ds d = grind (arith, common_steps)
 
 behind_nothing : (k : ℕ) → behind_zeros (suc k) [] ≡ behind_zeros (suc k) (48 ∷ [])
-behind_nothing k = grind (arith, common_steps, zero_more)
+behind_nothing k = grind (arith, common_steps)
 
 -- the last digit stands behind those of a tenth
 last_behind : (k m : ℕ) → m < 2 ^ 64 → behind_zeros (suc (suc k)) (decimal m) ≡ behind_zeros (suc k) (decimal (m / 10)) ++ decimal (m % 10)
@@ -44,10 +40,7 @@ tenth k n = sym (div-div-eq-div-mul n 10 (10 ^ suc k) ∙ ap (λ d. n / d) (sym 
 
 last_digits_right : (k n : ℕ) → last_digits (suc (suc k)) n ≡ last_digits (suc k) (n / 10) ++ decimal (n % 10)
 last_digits_right zero n = refl
-last_digits_right (suc k) n =
-    ap (λ d. decimal (d % 10) ++ last_digits (suc (suc k)) n) (tenth k n)
-    ∙ ap (λ l. decimal (n / 10 / 10 ^ suc k % 10) ++ l) (last_digits_right k n)
-    ∙ sym (append_assoc (decimal (n / 10 / 10 ^ suc k % 10)) (last_digits (suc k) (n / 10)) (decimal (n % 10)))
+last_digits_right (suc k) n = rw (tenth k n, last_digits_right k n) (sym (append_assoc (decimal (n / 10 / 10 ^ suc k % 10)) (last_digits (suc k) (n / 10)) (decimal (n % 10))))
 
 zeros_last_digits : (k n : ℕ) → n < 2 ^ 64 → behind_zeros (suc k) (decimal (n % 10 ^ suc k)) ≡ last_digits (suc k) n
 zeros_last_digits zero n small = rw (decimal_digit (n % 10) (mod_below n 10 (omega arith))) refl
@@ -67,12 +60,9 @@ signed : (k : ℕ) (z : ℤ) → sign_of z ++ pointed k (unsigned_abs z) ≡ fig
 signed k (pos n) = refl
 signed k (negsuc n) = refl
 
-not_bare : (k n : ℕ) → styled_decimal (format_spec 32 0 4 (suc k) (2 ^ 64 - 1)) n ≡ padded_integral (format_spec 32 0 4 (suc k) (2 ^ 64 - 1)) false [] (decimal n)
-not_bare k n = grind (arith, common_steps)
-
 with_point : (k n : ℕ) → (k ≡ 0 → ⊥) → n < 2 ^ 64 → decimal (n / 10 ^ k) ++ (46 ∷ styled_decimal (format_spec 32 0 4 k (2 ^ 64 - 1)) (n % 10 ^ k)) ≡ pointed k n
 with_point zero n some small = absurd (some refl)
-with_point (suc k) n some small = ap (λ l. decimal (n / 10 ^ suc k) ++ (46 ∷ l)) (not_bare k (n % 10 ^ suc k) ∙ padded_zeros (suc k) (decimal (n % 10 ^ suc k)) ∙ zeros_last_digits k n small)
+with_point (suc k) n some small = ap (λ l. decimal (n / 10 ^ suc k) ++ (46 ∷ l)) (padded_zeros k (n % 10 ^ suc k) ∙ zeros_last_digits k n small)
 
 pub figure_text : (k n : ℕ) (z : ℤ) (sign : List ℕ) → (k ≡ 0 → ⊥) → n < 2 ^ 64 → n ≡ unsigned_abs z → sign ≡ sign_of z → sign ++ (decimal (n / 10 ^ k) ++ (46 ∷ styled_decimal (format_spec 32 0 4 k (2 ^ 64 - 1)) (n % 10 ^ k))) ≡ figure_of k z
 figure_text k n z sign some small abs e = rw (with_point k n some small, abs, e) (signed k z)
