@@ -1,22 +1,32 @@
-// Determinants and units by their names.
-use std::alloc::{AllocError, Global};
-use std::str::from_utf8;
+// A determinant and whose it is.
+use intervals::fault::Fault;
+use std::fmt;
 use terms::determinant::Determinant;
 
-pub(crate) fn name_of(determinant: Determinant) -> &'static str {
-    from_utf8(determinant.name()).unwrap_or("")
+// As: RTSPP of Resource 3
+#[derive(Clone, Copy)]
+pub(crate) struct Place {
+    pub(crate) determinant: Determinant,
+    pub(crate) unit: u32,
 }
 
-// A determinant and whose it is, as: RTSPP of Resource 3
-pub(crate) fn place(
-    heap: Global,
-    determinant: Determinant,
-    unit: u32,
-) -> Result<String, AllocError> {
-    let name = name_of(determinant);
-    match determinant {
-        Determinant::Vssvarpr => String::from_str(heap, name),
-        Determinant::Lrs => format!(in heap; "{name} of QSE {unit}"),
-        _ => format!(in heap; "{name} of Resource {unit}"),
+// The question at which a run stopped.
+impl From<Fault> for Place {
+    fn from(fault: Fault) -> Place {
+        Place {
+            determinant: fault.determinant,
+            unit: fault.unit,
+        }
+    }
+}
+
+impl fmt::Display for Place {
+    fn fmt<W: fmt::Write>(&self, f: &mut fmt::Formatter<W>) -> fmt::Result {
+        let Place { determinant, unit } = *self;
+        match determinant {
+            Determinant::Vssvarpr => write!(f, "{determinant}"),
+            Determinant::Lrs => write!(f, "{determinant} of QSE {unit}"),
+            _ => write!(f, "{determinant} of Resource {unit}"),
+        }
     }
 }

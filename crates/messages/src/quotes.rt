@@ -1,17 +1,26 @@
 // Bytes of a file as a person can read them.
-use std::alloc::{AllocError, Global};
+use std::fmt;
 
 // A field between quotes; a quote and a backslash after a backslash, and each byte that is no printable ASCII character as \xNN.
-pub(crate) fn quoted(heap: Global, field: &[u8]) -> Result<String, AllocError> {
-    let mut text = String::from_str(heap, "\"")?;
-    for b in field {
-        match *b {
-            b'"' => text.push_str("\\\"")?,
-            b'\\' => text.push_str("\\\\")?,
-            32..=126 => text.push(*b as char)?,
-            _ => text.push_str(format!(in heap; "\\x{b:02x}")?.as_str())?,
+#[derive(Clone, Copy)]
+pub(crate) struct Quoted<'a>(pub(crate) &'a [u8]);
+
+impl fmt::Display for Quoted<'_> {
+    fn fmt<W: fmt::Write>(&self, f: &mut fmt::Formatter<W>) -> fmt::Result {
+        f.write_char('"')?;
+        for b in self.0 {
+            match *b {
+                b'"' => f.write_str("\\\"")?,
+                b'\\' => f.write_str("\\\\")?,
+                32..=126 => f.write_char(*b as char)?,
+                _ => write!(f, "\\x{b:02x}")?,
+            }
         }
+        f.write_char('"')
     }
-    text.push('"')?;
-    Ok(text)
+}
+
+// What separates two fields.
+pub(crate) fn is_space(byte: &u8) -> bool {
+    *byte == b' '
 }

@@ -1,17 +1,30 @@
 // What a row of the list of warnings says.
-use crate::place::place;
+use crate::place::Place;
 use intervals::warning::Warning;
-use std::alloc::{AllocError, Global};
+use std::fmt;
 use terms::determinant::Determinant;
 
-pub fn explain(heap: Global, warning: &Warning) -> Result<String, AllocError> {
-    let what = match Determinant::from_number(warning.determinant) {
-        Some(d) => place(heap, d, warning.resource)?,
-        None => String::from_str(heap, "a determinant")?,
-    };
-    let day = warning.day;
-    let hour = warning.hour;
-    format!(in heap;
-        "{what} is missing at the start of hour {hour} of day {day}; VSSEAMT is zero in every interval that lacks it"
-    )
+#[derive(Clone, Copy, Debug, PartialEq, Eq)]
+pub struct Sentence<'a>(pub &'a Warning);
+
+impl fmt::Display for Sentence<'_> {
+    fn fmt<W: fmt::Write>(&self, f: &mut fmt::Formatter<W>) -> fmt::Result {
+        let Warning {
+            determinant,
+            resource,
+            day,
+            hour,
+        } = *self.0;
+        match Determinant::try_from(determinant) {
+            Ok(determinant) => {
+                let unit = resource;
+                write!(f, "{}", Place { determinant, unit })?;
+            }
+            Err(_) => f.write_str("a determinant")?,
+        }
+        write!(
+            f,
+            " is missing at the start of hour {hour} of day {day}; VSSEAMT is zero in every interval that lacks it"
+        )
+    }
 }

@@ -1,14 +1,16 @@
 // `settle ask FILE NAME UNIT DAY INT`
-use crate::check::{say_refused, say_unreadable};
 use crate::console::Console;
-use crate::load::load;
-use crate::words::number_of;
+use crate::words::{NoNumber, number_of};
 use filesource::source::FileSource;
-use notation::figure::figure;
+use notation::figure::Figure;
+use std::fmt;
+use std::rt::Files;
 use terms::answer::Answer;
 use terms::determinant::Determinant;
-use terms::question::Question;
+use terms::question::{Question, Slot};
 use terms::source::Source;
+
+const EXAMPLE: &str = "settle ask day.txt RTSPP 3 7 12";
 
 // The words of the command after FILE.
 #[derive(Clone, Copy)]
@@ -19,77 +21,76 @@ pub(crate) struct Place<'a> {
     pub(crate) interval: &'a str,
 }
 
-// What a file says of one determinant, unit, day and interval; false where the file is refused or the command is wrong.
-pub(crate) fn run(
-    rt: &HostRuntime,
-    console: Console,
-    path: &str,
-    place: &Place<'_>,
-) -> anyhow::Result<bool> {
-    let Some(determinant) = Determinant::from_name(place.name.as_bytes()) else {
-        let message = format!(in rt.alloc();
-            "{} is no determinant's name; names are written in capitals, as RTSPP",
-            place.name
-        )?;
-        console.complain(rt, message.as_str())?;
-        return Ok(false);
-    };
-    let Some(question) = question_of(determinant, place) else {
-        return wrong_number(rt, console, place);
-    };
-    match load(rt, path) {
-        Ok(bytes) => answer(rt, path, bytes.as_slice(), determinant, question),
-        Err(e) => say_unreadable(rt, console, path, e),
+// What is wrong with these words.
+#[derive(Clone, Copy)]
+enum PlaceFault<'a> {
+    NoDeterminant(&'a str),
+    NoNumber(NoNumber<'a>),
+}
+
+impl<'a> From<NoNumber<'a>> for PlaceFault<'a> {
+    fn from(fault: NoNumber<'a>) -> PlaceFault<'a> {
+        PlaceFault::NoNumber(fault)
     }
 }
 
-fn question_of(determinant: Determinant, place: &Place<'_>) -> Option<Question> {
-    let unit = number_of(place.unit)?;
-    let day = number_of(place.day)?;
-    let interval = number_of(place.interval)?;
-    Some(Question {
-        determinant: determinant.number(),
-        unit,
-        day,
-        interval,
-    })
-}
-
-// Says which of UNIT, DAY and INT is no number.
-fn wrong_number(rt: &HostRuntime, console: Console, place: &Place<'_>) -> anyhow::Result<bool> {
-    let (what, word) = if number_of(place.unit).is_none() {
-        ("UNIT", place.unit)
-    } else if number_of(place.day).is_none() {
-        ("DAY", place.day)
-    } else {
-        ("INT", place.interval)
-    };
-    let message = format!(in rt.alloc();
-        "{what} is {word}, which is no whole number; as in: settle ask day.txt RTSPP 3 7 12"
-    )?;
-    console.complain(rt, message.as_str())?;
-    Ok(false)
-}
-
-fn answer(
-    rt: &HostRuntime,
-    path: &str,
-    bytes: &[u8],
-    determinant: Determinant,
-    question: Question,
-) -> anyhow::Result<bool> {
-    let source = FileSource::new(bytes);
-    let verdict = source.verdict();
-    if let Err(refusal) = verdict {
-        say_refused(rt, path, bytes, refusal)?;
-    }
-    match source.ask(question) {
-        Answer::NoCut => println!(rt; "no cut")?,
-        Answer::Null => println!(rt; "null")?,
-        Answer::Figure(stored) => {
-            let text = figure(rt.alloc(), stored, determinant)?;
-            println!(rt; "{text} (stored {stored})")?;
+impl fmt::Display for PlaceFault<'_> {
+    fn fmt<W: fmt::Write>(&self, f: &mut fmt::Formatter<W>) -> fmt::Result {
+        match self {
+            PlaceFault::NoDeterminant(name) => write!(
+                f,
+                "{name} is no determinant's name; names are written in capitals, as RTSPP"
+            ),
+            PlaceFault::NoNumber(fault) => write!(f, "{fault}"),
         }
     }
-    Ok(verdict.is_ok())
+}
+
+impl<'a> Place<'a> {
+    // The determinant that is asked for, and the question.
+    fn read(self) -> Result<(Determinant, Question), PlaceFault<'a>> {
+        let Ok(determinant) = Determinant::try_from(self.name.as_bytes()) else {
+            return Err(PlaceFault::NoDeterminant(self.name));
+        };
+        let unit = number_of("UNIT", self.unit, EXAMPLE)?;
+        let day = number_of("DAY", self.day, EXAMPLE)?;
+        let interval = number_of("INT", self.interval, EXAMPLE)?;
+        let slot = Slot { day, interval };
+        Ok((determinant, Question::about(determinant, unit, slot)))
+    }
+}
+
+impl<R: Files + Print + Eprint + AllocGlobal> Console<'_, R> {
+    // What a file says of one determinant, unit, day and interval; false where the file is refused or the command is wrong.
+    pub(crate) fn ask(&self, path: &str, place: Place<'_>) -> anyhow::Result<bool> {
+        let (determinant, question) = match place.read() {
+            Ok(read) => read,
+            Err(fault) => return self.refuse(fault),
+        };
+        let Some(bytes) = self.load(path)? else {
+            return Ok(false);
+        };
+        let source = FileSource::new(&bytes);
+        let verdict = source.verdict();
+        if let Err(refusal) = verdict {
+            self.say_refused(path, &bytes, refusal)?;
+        }
+        self.say_answer(determinant, source.ask(question))?;
+        Ok(verdict.is_ok())
+    }
+
+    fn say_answer(&self, determinant: Determinant, answer: Answer) -> anyhow::Result<()> {
+        match answer {
+            Answer::NoCut => println!(self.rt; "no cut")?,
+            Answer::Null => println!(self.rt; "null")?,
+            Answer::Figure(stored) => {
+                let figure = Figure {
+                    stored,
+                    determinant,
+                };
+                println!(self.rt; "{figure} (stored {stored})")?;
+            }
+        }
+        Ok(())
+    }
 }

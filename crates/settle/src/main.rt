@@ -11,9 +11,10 @@ mod sheet;
 mod words;
 mod work;
 
-use console::Console;
+use console::{Call, Console};
 use std::env;
 use std::process::ExitCode;
+use std::rt::{Env, Runtime};
 
 // Status 1 where the one command of a call found something wrong, which it has said, and where input or output fails.
 fn main(rt: HostRuntime) -> ExitCode {
@@ -27,22 +28,23 @@ fn main(rt: HostRuntime) -> ExitCode {
     }
 }
 
-fn run(rt: &HostRuntime) -> anyhow::Result<bool> {
-    let Ok(words) = arguments(rt) else {
-        Console::Single.complain(rt, "the arguments cannot be read; each must be UTF-8 text")?;
-        return Ok(false);
+fn run<R: Runtime + AllocGlobal>(rt: &R) -> anyhow::Result<bool> {
+    let call = Call::Single;
+    let console = Console { rt, call };
+    let Ok(arguments) = arguments(rt) else {
+        return console.refuse("the arguments cannot be read; each must be UTF-8 text");
     };
-    if let [first, rest @ ..] = words.as_slice() {
-        return script::command(rt, Console::Single, first.as_str(), rest);
+    if arguments.is_empty() {
+        script::run(rt)?;
+        return Ok(true);
     }
-    script::run(rt)?;
-    Ok(true)
+    let words: Vec<&str> = arguments
+        .iter()
+        .map(|word| word.as_str())
+        .collect(rt.alloc())?;
+    console.command(&words)
 }
 
-fn arguments(rt: &HostRuntime) -> anyhow::Result<Vec<String>> {
-    let mut words = Vec::new(rt.alloc());
-    for word in env::args(rt)?.skip(1) {
-        words.push(word)?;
-    }
-    Ok(words)
+fn arguments<R: Env + AllocGlobal>(rt: &R) -> anyhow::Result<Vec<String>> {
+    Ok(env::args(rt)?.skip(1).collect(rt.alloc())?)
 }

@@ -1,11 +1,6 @@
 // The options of `settle work`.
-use std::alloc::{AllocError, Global};
-
-#[derive(Clone, Copy)]
-pub(crate) enum Rule {
-    Away,
-    Even,
-}
+use rounding::rules::{NoRule, Rule};
+use std::fmt;
 
 #[derive(Clone, Copy)]
 pub(crate) struct Options {
@@ -17,57 +12,46 @@ pub(crate) struct Options {
 #[derive(Clone, Copy)]
 pub(crate) enum OptionFault<'a> {
     Unknown(&'a str),
-    NoRule(&'a str),
+    NoRule(&'a str, NoRule),
     RuleMissing,
 }
 
-// The rule by its name.
-fn rule_of(word: &str) -> Option<Rule> {
-    match word {
-        "away" => Some(Rule::Away),
-        "even" => Some(Rule::Even),
-        _ => None,
+impl fmt::Display for OptionFault<'_> {
+    fn fmt<W: fmt::Write>(&self, f: &mut fmt::Formatter<W>) -> fmt::Result {
+        match self {
+            OptionFault::Unknown(word) => write!(
+                f,
+                "{word} is no option of work; allowed are --rule away, --rule even and --fill"
+            ),
+            OptionFault::NoRule(word, fault) => write!(f, "{word} is {fault}"),
+            OptionFault::RuleMissing => write!(
+                f,
+                "--rule wants a rounding rule after it; allowed are away and even"
+            ),
+        }
     }
 }
 
-// What the words after FILE and DAY ask for. Of an option that stands twice the later counts.
-pub(crate) fn options_of(words: &[String]) -> Result<Options, OptionFault<'_>> {
-    let mut rule = Rule::Away;
-    let mut fill = false;
-    let mut rule_follows = false;
-    for word in words {
-        let word = word.as_str();
-        if rule_follows {
-            let Some(named) = rule_of(word) else {
-                return Err(OptionFault::NoRule(word));
-            };
-            rule = named;
-            rule_follows = false;
-        } else {
+impl Options {
+    // What the words after FILE and DAY ask for. Of an option that stands twice the later counts.
+    pub(crate) fn read<'a>(words: &[&'a str]) -> Result<Options, OptionFault<'a>> {
+        let mut options = Options {
+            rule: Rule::Away,
+            fill: false,
+        };
+        let mut words = words.iter().copied();
+        while let Some(word) = words.next() {
             match word {
-                "--rule" => rule_follows = true,
-                "--fill" => fill = true,
+                "--rule" => {
+                    let name = words.next().ok_or(OptionFault::RuleMissing)?;
+                    options.rule = name
+                        .parse()
+                        .map_err(|fault| OptionFault::NoRule(name, fault))?;
+                }
+                "--fill" => options.fill = true,
                 _ => return Err(OptionFault::Unknown(word)),
             }
         }
-    }
-    if rule_follows {
-        return Err(OptionFault::RuleMissing);
-    }
-    Ok(Options { rule, fill })
-}
-
-pub(crate) fn explain(heap: Global, fault: OptionFault<'_>) -> Result<String, AllocError> {
-    match fault {
-        OptionFault::Unknown(word) => format!(in heap;
-            "{word} is no option of work; allowed are --rule away, --rule even and --fill"
-        ),
-        OptionFault::NoRule(word) => {
-            format!(in heap; "{word} is no rounding rule; allowed are away and even")
-        }
-        OptionFault::RuleMissing => String::from_str(
-            heap,
-            "--rule wants a rounding rule after it; allowed are away and even",
-        ),
+        Ok(options)
     }
 }

@@ -1,9 +1,9 @@
 // Commands by their words, and scripts of commands.
 use crate::ask::Place;
-use crate::console::Console;
-use crate::{ask, check, work};
-use std::alloc::{AllocError, Global};
+use crate::console::{Call, Console};
+use std::fmt::Display;
 use std::io::{BufRead, BufReader};
+use std::rt::{Clock, Files};
 use std::str::from_utf8;
 
 const USAGE: &str = "usage: settle COMMAND
@@ -18,107 +18,66 @@ const USAGE: &str = "usage: settle COMMAND
       this text
 With no command, each line of standard input is one; blank lines and lines that begin with # are passed over.";
 
-// One command; false where it was refused or found something wrong.
-pub(crate) fn command(
-    rt: &HostRuntime,
-    console: Console,
-    first: &str,
-    rest: &[String],
-) -> anyhow::Result<bool> {
-    match first {
-        "check" => check_words(rt, console, rest),
-        "ask" => ask_words(rt, console, rest),
-        "work" => work_words(rt, console, rest),
-        "help" | "--help" | "-h" => say_usage(rt),
-        name => unknown(rt, console, name),
+impl<R: Files + Clock + Print + Eprint + AllocGlobal> Console<'_, R> {
+    // One command, where there are words; false where it was refused or found something wrong.
+    pub(crate) fn command(&self, words: &[&str]) -> anyhow::Result<bool> {
+        match *words {
+            [] => Ok(true),
+            ["check"] => self.wrong("check wants one file or more"),
+            ["check", ref paths @ ..] => self.check(paths),
+            ["ask", path, name, unit, day, interval] => self.ask(
+                path,
+                Place {
+                    name,
+                    unit,
+                    day,
+                    interval,
+                },
+            ),
+            ["ask", ..] => self.wrong("ask wants FILE NAME UNIT DAY INT"),
+            ["work", path, day, ref options @ ..] => self.work(path, day, options),
+            ["work", ..] => self.wrong("work wants FILE DAY and then its options"),
+            ["help" | "--help" | "-h", ..] => {
+                self.rt.println(USAGE)?;
+                Ok(true)
+            }
+            [name, ..] => self.wrong(format_args!("there is no command {name}")),
+        }
     }
-}
 
-fn check_words(rt: &HostRuntime, console: Console, words: &[String]) -> anyhow::Result<bool> {
-    if words.is_empty() {
-        return wrong(rt, console, "check wants one file or more");
+    fn wrong(&self, message: impl Display + Drop) -> anyhow::Result<bool> {
+        self.complain(message)?;
+        self.hint(USAGE)?;
+        Ok(false)
     }
-    check::run(rt, console, words)
-}
 
-fn ask_words(rt: &HostRuntime, console: Console, words: &[String]) -> anyhow::Result<bool> {
-    let [path, name, unit, day, interval] = words else {
-        return wrong(rt, console, "ask wants FILE NAME UNIT DAY INT");
-    };
-    let place = Place {
-        name: name.as_str(),
-        unit: unit.as_str(),
-        day: day.as_str(),
-        interval: interval.as_str(),
-    };
-    ask::run(rt, console, path.as_str(), &place)
-}
-
-fn work_words(rt: &HostRuntime, console: Console, words: &[String]) -> anyhow::Result<bool> {
-    let [path, day, options @ ..] = words else {
-        return wrong(rt, console, "work wants FILE DAY and then its options");
-    };
-    work::run(rt, console, path.as_str(), day.as_str(), options)
-}
-
-fn unknown(rt: &HostRuntime, console: Console, name: &str) -> anyhow::Result<bool> {
-    let message = format!(in rt.alloc(); "there is no command {name}")?;
-    wrong(rt, console, message.as_str())
-}
-
-fn say_usage(rt: &HostRuntime) -> anyhow::Result<bool> {
-    println!(rt; "{USAGE}")?;
-    Ok(true)
-}
-
-fn wrong(rt: &HostRuntime, console: Console, message: &str) -> anyhow::Result<bool> {
-    console.complain(rt, message)?;
-    console.usage(rt, USAGE)?;
-    Ok(false)
+    // A line of a script, unless it is a comment.
+    fn line(&self, line: &[u8]) -> anyhow::Result<()> {
+        if line.trim_ascii_start().starts_with(b"#") {
+            return Ok(());
+        }
+        let Ok(text) = from_utf8(line) else {
+            self.complain("the line is not UTF-8 text")?;
+            return Ok(());
+        };
+        let words: Vec<&str> = text.split_whitespace().collect(self.rt.alloc())?;
+        self.command(&words)?;
+        Ok(())
+    }
 }
 
 // Each line of standard input; the usage text where there is none.
-pub(crate) fn run(rt: &HostRuntime) -> anyhow::Result<()> {
-    let mut number: u64 = 0;
-    for line in BufReader::new(rt.alloc(), rt.stdin())?.split(rt.alloc(), b'\n') {
-        let line = line?;
-        number = number.saturating_add(1);
-        if !is_comment(line.as_slice()) {
-            run_line(rt, Console::Script(number), line.as_slice())?;
-        }
+pub(crate) fn run<R: Files + Clock + Input + Print + Eprint + AllocGlobal>(
+    rt: &R,
+) -> anyhow::Result<()> {
+    let input = BufReader::new(rt.alloc(), rt.reader())?;
+    let mut lines = (1..).zip(input.split(rt.alloc(), b'\n')).peekable();
+    if lines.peek().is_none() {
+        rt.println(USAGE)?;
     }
-    if number == 0 {
-        say_usage(rt)?;
-    }
-    Ok(())
-}
-
-// Whether the first byte that is no blank is a #.
-fn is_comment(line: &[u8]) -> bool {
-    for b in line {
-        if !b.is_ascii_whitespace() {
-            return *b == b'#';
-        }
-    }
-    false
-}
-
-fn run_line(rt: &HostRuntime, console: Console, line: &[u8]) -> anyhow::Result<()> {
-    let Ok(text) = from_utf8(line) else {
-        console.complain(rt, "the line is not UTF-8 text")?;
-        return Ok(());
-    };
-    let words = words_of(rt.alloc(), text)?;
-    if let [first, rest @ ..] = words.as_slice() {
-        command(rt, console, first.as_str(), rest)?;
+    for (number, line) in lines {
+        let call = Call::Script(number);
+        Console { rt, call }.line(line?.as_slice())?;
     }
     Ok(())
-}
-
-fn words_of(heap: Global, text: &str) -> Result<Vec<String>, AllocError> {
-    let mut words = Vec::new(heap);
-    for word in text.split_whitespace() {
-        words.push(String::from_str(heap, word)?)?;
-    }
-    Ok(words)
 }

@@ -1,14 +1,40 @@
 // Numbers among the words of a command.
+use std::fmt;
+
+// A word that should be a number: what it stands for, and a command that is right.
+#[derive(Clone, Copy)]
+pub(crate) struct NoNumber<'a> {
+    what: &'static str,
+    word: &'a str,
+    example: &'static str,
+}
+
+impl fmt::Display for NoNumber<'_> {
+    fn fmt<W: fmt::Write>(&self, f: &mut fmt::Formatter<W>) -> fmt::Result {
+        let NoNumber {
+            what,
+            word,
+            example,
+        } = *self;
+        write!(
+            f,
+            "{what} is {word}, which is no whole number; as in: {example}"
+        )
+    }
+}
 
 // The number that digits write. One that is too large for a question lies outside every range, as does the largest that is not.
-pub(crate) fn number_of(word: &str) -> Option<u32> {
-    if word.is_empty() {
-        return None;
+pub(crate) fn number_of<'a>(
+    what: &'static str,
+    word: &'a str,
+    example: &'static str,
+) -> Result<u32, NoNumber<'a>> {
+    if word.is_empty() || !word.bytes().all(|b| b.is_ascii_digit()) {
+        return Err(NoNumber {
+            what,
+            word,
+            example,
+        });
     }
-    for b in word.as_bytes() {
-        if !b.is_ascii_digit() {
-            return None;
-        }
-    }
-    Some(word.parse::<u32>().unwrap_or(u32::MAX))
+    Ok(word.parse().unwrap_or(u32::MAX))
 }
