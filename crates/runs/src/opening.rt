@@ -6,11 +6,13 @@ use crate::day::RunDay;
 use crate::refusal::DayRefusal;
 use terms::question::LAST_DAY;
 
-impl RunDay {
-    // The day, where there is such a day.
-    pub fn check(day: u32) -> Result<RunDay, DayRefusal>
-        ensures { day_told result ≡ checking day }
-    {
+// The day, where there is such a day.
+impl TryFrom<u32> for RunDay {
+    type Error = DayRefusal;
+
+    ghost try_from_gives = { λ day r. day_told r ≡ checking day };
+
+    fn try_from(day: u32) -> Result<RunDay, DayRefusal> {
         if day > LAST_DAY {
             return Err(DayRefusal::OutOfRange);
         }

@@ -35,7 +35,7 @@ impl<R: Files + Clock + Print + Eprint + AllocGlobal> Console<'_, R> {
             Ok(number) => number,
             Err(fault) => return self.refuse(fault),
         };
-        match RunDay::check(number) {
+        match RunDay::try_from(number) {
             Ok(checked) => self.work_file(path, checked, options),
             Err(refusal) => self.say_day_refused(day, refusal),
         }
