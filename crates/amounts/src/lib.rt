@@ -2,7 +2,9 @@
 // makes of them.
 #![tactic(auto)]
 
+mod arithmetic;
 pub mod formulas;
 pub mod laws;
 pub mod readings;
 pub mod row;
+mod settling;

@@ -22,10 +22,7 @@ pub struct Readings {
 fn cost_in(determinant: Determinant, cost: Option<i64>) -> bool
     ensures { result ≡ cost_in determinant cost }
 {
-    match cost {
-        Some(x) => determinant.admits(x),
-        None => true,
-    }
+    cost.is_none_or(|x| determinant.admits(x))
 }
 
 impl Readings {
@@ -56,6 +53,7 @@ impl Readings {
     }
 
     // Whether each figure lies in its determinant's range.
+    #[tactic(auto, unfolding(crate::specs::Readings::ranged))]
     pub fn are_in_range(&self) -> bool
         ensures { result ≡ ranged self.now }
     {

@@ -1,12 +1,6 @@
 // A row of the table.
 use amounts::readings::Readings;
-
-// The rule that a row is rounded by.
-#[derive(Clone, Copy)]
-pub enum Rule {
-    Away,
-    Even,
-}
+use rounding::rules::Rule;
 
 // What a row is given, as stored numbers.
 #[derive(Clone, Copy)]
