@@ -5,7 +5,7 @@ use crate::words::number_of;
 use filesource::source::FileSource;
 use intervals::warning::Warning;
 use messages::{stopped, warned};
-use rounding::rule::Rounding;
+use rounding::rules::Rule;
 use runs::day::RunDay;
 use runs::refusal::{DayRefusal, IntervalRefusal};
 use runs::run::Run;
@@ -68,11 +68,7 @@ impl<R: Files + Clock + Print + Eprint + AllocGlobal> Console<'_, R> {
     }
 
     // The run is closed whatever comes of it, and then its sheet is told.
-    fn work_day<S: Source, T: Rounding + Drop>(
-        &self,
-        source: &S,
-        mut run: Run<T>,
-    ) -> anyhow::Result<bool> {
+    fn work_day<S: Source>(&self, source: &S, mut run: Run<Rule>) -> anyhow::Result<bool> {
         let ended = self.work_intervals(source, &mut run);
         let sheet = run.close();
         let through = ended?;
@@ -81,11 +77,7 @@ impl<R: Files + Clock + Print + Eprint + AllocGlobal> Console<'_, R> {
     }
 
     // The intervals of the day; false where the run stops in one.
-    fn work_intervals<S: Source, T: Rounding>(
-        &self,
-        source: &S,
-        run: &mut Run<T>,
-    ) -> anyhow::Result<bool> {
+    fn work_intervals<S: Source>(&self, source: &S, run: &mut Run<Rule>) -> anyhow::Result<bool> {
         let start = Instant::now(self.rt)?;
         let mut rows = vec![in self.rt.alloc(); Warning::default(); WARNING_ROWS]?;
         for interval in 1..=LAST_INTERVAL {
@@ -98,10 +90,10 @@ impl<R: Files + Clock + Print + Eprint + AllocGlobal> Console<'_, R> {
     }
 
     // One interval; false where the run stops there.
-    fn work_interval<S: Source, T: Rounding>(
+    fn work_interval<S: Source>(
         &self,
         source: &S,
-        run: &mut Run<T>,
+        run: &mut Run<Rule>,
         interval: u32,
         rows: &mut [Warning],
     ) -> io::Result<bool> {
