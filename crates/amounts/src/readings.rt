@@ -1,6 +1,7 @@
 // The figures of one Resource in one interval, as stored numbers.
 ghost use Rattle.std.specs.Prelude.{◌≡◌};
-ghost use Rattle.amounts.specs.Readings.{cost_in, ranged_limits, ranged_costs, ranged_output, ranged};
+ghost use Rattle.std.specs.List.{list_all};
+ghost use Rattle.amounts.specs.Readings.{cost_in, figures_of, ranged};
 
 use terms::determinant::Determinant;
 
@@ -19,44 +20,35 @@ pub struct Readings {
     pub rtmg: i64,
 }
 
-fn cost_in(determinant: Determinant, cost: Option<i64>) -> bool
-    ensures { result ≡ cost_in determinant cost }
+fn all_in_range(figures: &[(Determinant, Option<i64>)]) -> bool
+    ensures { result ≡ list_all (λ f. cost_in f.0 f.1) figures.now }
 {
-    cost.is_none_or(|x| determinant.admits(x))
+    figures.iter().all(|(determinant, stored)| stored.is_none_or(|x| determinant.admits(x)))
 }
 
 impl Readings {
-    fn limits_in_range(&self) -> bool
-        ensures { result ≡ ranged_limits self.now }
+    // Each figure beside its determinant.
+    fn figures(&self) -> [(Determinant, Option<i64>); 10]
+        ensures { result ≡ figures_of self.now }
     {
-        Determinant::Vssvariol.admits(self.vssvariol)
-            && Determinant::Urllag.admits(self.urllag)
-            && Determinant::Urllead.admits(self.urllead)
-            && Determinant::Rtvar.admits(self.rtvar)
-    }
-
-    fn costs_in_range(&self) -> bool
-        ensures { result ≡ ranged_costs self.now }
-    {
-        cost_in(Determinant::Rthslaiec, self.rthslaiec)
-            && cost_in(Determinant::Rtvssaiec, self.rtvssaiec)
-            && Determinant::Rtmg.admits(self.rtmg)
-    }
-
-    fn output_in_range(&self) -> bool
-        ensures { result ≡ ranged_output self.now }
-    {
-        Determinant::Hsl.admits(self.hsl)
-            && Determinant::Lsl.admits(self.lsl)
-            && Determinant::Rtspp.admits(self.rtspp)
-            && self.costs_in_range()
+        [
+            (Determinant::Vssvariol, Some(self.vssvariol)),
+            (Determinant::Urllag, Some(self.urllag)),
+            (Determinant::Urllead, Some(self.urllead)),
+            (Determinant::Rtvar, Some(self.rtvar)),
+            (Determinant::Hsl, Some(self.hsl)),
+            (Determinant::Lsl, Some(self.lsl)),
+            (Determinant::Rtspp, Some(self.rtspp)),
+            (Determinant::Rthslaiec, self.rthslaiec),
+            (Determinant::Rtvssaiec, self.rtvssaiec),
+            (Determinant::Rtmg, Some(self.rtmg)),
+        ]
     }
 
     // Whether each figure lies in its determinant's range.
-    #[tactic(auto, unfolding(crate::specs::Readings::ranged))]
     pub fn are_in_range(&self) -> bool
         ensures { result ≡ ranged self.now }
     {
-        self.limits_in_range() && self.output_in_range()
+        all_in_range(&self.figures())
     }
 }
