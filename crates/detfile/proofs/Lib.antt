@@ -1,5 +1,4 @@
 pub mod NameSteps
-pub mod ValueSteps
 pub mod LineSteps
 pub mod VerdictProofs
 pub mod NamesFew

@@ -1,14 +1,10 @@
 -- One step of the walk over the lines of a file.
-use Rattle.std.proofs.Common.{◌≡◌, ℕ, ◌+◌, ◌≤◌, Bool, true, false, cond, eqb, List, [], ◌∷◌, ◌++◌, length, Some, None, Ok, Err, Option, sym, refl, ap, ◌∙◌, append_assoc, append-nil, arith}
+use Rattle.std.proofs.Common.{◌≡◌, ℕ, ◌+◌, ◌≤◌, Bool, true, false, cond, eqb, List, [], ◌∷◌, ◌++◌, length, Some, None, Option, sym, refl, ap, ◌∙◌, append_assoc, append-nil, arith}
 use Rattle.std.specs.List.{flat_map}
 use Rattle.std.proofs.lemmas.List.{nil_from_length, length_push}
 use Rattle.std.proofs.lemmas.Bool.{cond-false, cond_both, ne_eqb, eqb-true, eqb-false}
-use Rattle.terms.specs.declared.determinant.Determinant.{Determinant}
 use Rattle.figures.specs.Cuts.{cut, cut_on}
-use Rattle.detfile.specs.declared.refusal.FileRefusal.{FileRefusal}
-use Rattle.detfile.specs.Keys.{then}
-use Rattle.detfile.specs.Values.{line_judged}
-use Rattle.detfile.specs.Lines.{Line, ended, unended, lines_on, lines, written, lines_judged}
+use Rattle.detfile.specs.Lines.{Line, ended, unended, lines_on, lines, written}
 
 -- what the first line feed says of the lines
 abbrev pub by_cut : List ℕ → Option (List ℕ × List ℕ) → List Line
@@ -32,16 +28,6 @@ module _ (bs : List ℕ) where
 
   pub line_open : None ≡ cut 10 bs → (length bs ≡ 0 → ⊥) → lines bs ≡ unended bs ∷ []
   line_open e h = lines_cut bs ∙ ap (by_cut bs) (sym e) ∙ cond-false _ _ _ (ne_eqb _ _ h)
-
-  pub line_none : length bs ≡ 0 → lines bs ≡ []
-  line_none h = ap lines (nil_from_length bs h)
-
-module _ (ks : List Determinant) (n : ℕ) (bs : List ℕ) where
-  pub judge_more : (p : List ℕ × List ℕ) (x : Unit {0}) → Some p ≡ cut 10 bs → Ok x ≡ line_judged ks (n + 2) p.0 → lines_judged ks n (lines bs) ≡ lines_judged ks (n + 1) (lines p.1)
-  judge_more p x e h = ap (lines_judged ks n) (line_more bs p e) ∙ ap (λ r. then r (λ _. lines_judged ks (n + 1) (lines p.1))) (sym h)
-
-  pub judge_stop : (p : List ℕ × List ℕ) (why : FileRefusal) → Some p ≡ cut 10 bs → Err why ≡ line_judged ks (n + 2) p.0 → lines_judged ks n (lines bs) ≡ Err why
-  judge_stop p why e h = ap (lines_judged ks n) (line_more bs p e) ∙ ap (λ r. then r (λ _. lines_judged ks (n + 1) (lines p.1))) (sym h)
 
 -- each line has a byte of its own
 few_lines_on : (front bs : List ℕ) → length (lines_on front bs) ≤ length front + length bs

@@ -26,9 +26,6 @@ module _ (n i : ℕ) (ks : List Determinant) (bs : List ℕ) (h : i < n) where
   names_step : names_on (n - i) ks bs ≡ next_name ks (named (first_field bs)) (λ ls. names_on (n - (i + 1)) ls (past_field bs))
   names_step = let e : n - i ≡ suc (n - (i + 1)) = omega arith in ap (λ m. names_on m ks bs) e
 
-  pub names_stop : None ≡ named (first_field bs) → names_on (n - i) ks bs ≡ None
-  names_stop e = names_step ∙ ap (λ o. next_name ks o (λ ls. names_on (n - (i + 1)) ls (past_field bs))) (sym e)
-
   pub names_twice : (d : Determinant) → Some d ≡ named (first_field bs) → held d ks ≡ true → names_on (n - i) ks bs ≡ None
   names_twice d e t = names_step ∙ ap (λ o. next_name ks o (λ ls. names_on (n - (i + 1)) ls (past_field bs))) (sym e) ∙ cond-true _ _ _ t
 

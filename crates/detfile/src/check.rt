@@ -4,15 +4,16 @@ ghost use Rattle.std.specs.Option.{option_map};
 ghost use Rattle.figures.specs.Cuts.{cut};
 ghost use Rattle.detfile.specs.Refusals.{told};
 ghost use Rattle.detfile.specs.Lines.{lines, lines_judged};
+ghost use Rattle.detfile.specs.Names.{columns_in};
 ghost use Rattle.detfile.specs.Files.{judged, checked};
 ghost use Rattle.detfile.specs.Verdicts.{Lined, Verdict};
 
+use crate::columns::Columns;
 use crate::lines::{Line, Lines};
 use crate::names::columns_of;
 use crate::refusal::FileRefusal;
 use crate::values::check_line;
 use figures::cutting::cut_at;
-use terms::determinant::Determinant;
 
 // The most bytes that a file may have.
 pub const MOST_BYTES: usize = 16_777_216;
@@ -26,10 +27,9 @@ pub fn cut_line(rest: &[u8]) -> Option<(&[u8], &[u8])>
 }
 
 // Checks the value lines, and counts them.
-fn check_lines(columns: &[Determinant], values: &[u8]) -> Result<u32, FileRefusal>
-    requires few_columns { length columns.now ≤ 13 }
-    requires few_bytes { length values.now ≤ 16777216 }
-    ensures { result ≡ lines_judged columns.now 0 (lines values.now) }
+fn check_lines(columns: &Columns, values: &[u8]) -> Result<u32, FileRefusal>
+    requires { length values.now ≤ 16777216 }
+    ensures { result ≡ lines_judged (columns_in columns.now) 0 (lines values.now) }
 {
     let mut count: u32 = 0;
     for line in Lines::new(values) {
@@ -51,7 +51,7 @@ fn judge(bytes: &[u8]) -> Result<u32, FileRefusal>
     }
     let (names, values) = cut_line(bytes).ok_or(FileRefusal::Names)?;
     let columns = columns_of(names).ok_or(FileRefusal::Names)?;
-    check_lines(columns.as_slice(), values)
+    check_lines(&columns, values)
 }
 
 // The number of value lines of a file, or why and at which line it is refused. The law says so in words: a file is accepted where its

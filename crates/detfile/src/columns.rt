@@ -1,5 +1,5 @@
 // The columns of a file.
-ghost use Rattle.std.specs.Prelude.{◌≡◌, ◌+◌, ◌<◌, ◌≤◌, [], ◌∷◌, ◌++◌, length};
+ghost use Rattle.std.specs.Prelude.{◌≡◌, ◌<◌, ◌≤◌, [], ◌∷◌, ◌++◌, length};
 
 use terms::determinant::Determinant;
 
@@ -33,8 +33,7 @@ impl Columns {
 
     // No columns.
     pub fn none() -> Columns
-        ensures columns { columns_in result ≡ [] }
-        ensures count { result.count ≡ 0 }
+        ensures { columns_in result ≡ [] }
     {
         Columns {
             determinants: [Determinant::Owner; MOST_COLUMNS],
@@ -44,9 +43,8 @@ impl Columns {
 
     // Puts one more after these.
     pub(crate) fn push(&mut self, determinant: Determinant)
-        requires { self.old.count < 13 }
-        ensures columns { columns_in self.new ≡ columns_in self.old ++ determinant ∷ [] }
-        ensures count { self.new.count ≡ self.old.count + 1 }
+        requires { length (columns_in self.old) < 13 }
+        ensures { columns_in self.new ≡ columns_in self.old ++ determinant ∷ [] }
     {
         self.determinants[self.count] = determinant;
         self.count += 1;

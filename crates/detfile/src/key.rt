@@ -1,6 +1,5 @@
 // The day, the unit and the interval of a value line.
 ghost use Rattle.std.specs.Prelude.{◌≡◌};
-ghost use Rattle.terms.specs.Limits.{last_day, last_unit};
 ghost use Rattle.figures.specs.Tokens.{seen, token_of};
 ghost use Rattle.detfile.specs.Keys.{ranged, interval_by, key_by, covers_of};
 
@@ -56,15 +55,15 @@ impl TryFrom<Fields<'_>> for Key {
 
     fn try_from(fields: Fields<'_>) -> Result<Key, Fault> {
         Ok(Key {
-            day: day_of(fields.day)?,
-            unit: unit_of(fields.unit)?,
+            day: ranged_number(fields.day, 0, LAST_DAY)?,
+            unit: ranged_number(fields.unit, 0, LAST_UNIT)?,
             interval: Interval::try_from(Token::from(fields.interval))?,
         })
     }
 }
 
 // The number from `low` to `high` that one to five digits write.
-fn ranged_number(field: &[u8], low: u32, high: u32) -> Result<u32, Fault>
+pub fn ranged_number(field: &[u8], low: u32, high: u32) -> Result<u32, Fault>
     ensures { result ≡ ranged low high field.now }
 {
     let n = short_number(field).ok_or(Fault::Form)?;
@@ -73,18 +72,4 @@ fn ranged_number(field: &[u8], low: u32, high: u32) -> Result<u32, Fault>
     } else {
         Err(Fault::Form)
     }
-}
-
-// The day that a field writes.
-pub fn day_of(field: &[u8]) -> Result<u32, Fault>
-    ensures { result ≡ ranged 0 last_day field.now }
-{
-    ranged_number(field, 0, LAST_DAY)
-}
-
-// The unit that a field writes.
-pub fn unit_of(field: &[u8]) -> Result<u32, Fault>
-    ensures { result ≡ ranged 0 last_unit field.now }
-{
-    ranged_number(field, 0, LAST_UNIT)
 }

@@ -1,8 +1,10 @@
 // The value lines.
-ghost use Rattle.std.specs.Prelude.{◌≡◌, ◌≤◌, length};
+ghost use Rattle.std.specs.Prelude.{◌≡◌};
 ghost use Rattle.figures.specs.Tokens.{seen};
+ghost use Rattle.detfile.specs.Names.{columns_in};
 ghost use Rattle.detfile.specs.Values.{given_by, values_fault, fields_fault, line_judged};
 
+use crate::columns::Columns;
 use crate::fields::Fields;
 use crate::key::Key;
 use crate::names::MOST_LINE;
@@ -46,14 +48,10 @@ fn check_fields(columns: &[Determinant], line: &[u8]) -> Result<(), Fault>
 }
 
 // Checks a value line, which is line `number` of the file.
-pub(crate) fn check_line(
-    columns: &[Determinant],
-    line: &[u8],
-    number: u32,
-) -> Result<(), FileRefusal>
-    requires { length columns.now ≤ 13 }
-    ensures { result ≡ line_judged columns.now number line.now }
+pub(crate) fn check_line(columns: &Columns, line: &[u8], number: u32) -> Result<(), FileRefusal>
+    ensures { result ≡ line_judged (columns_in columns.now) number line.now }
 {
+    let columns = columns.as_slice();
     if line.len() > MOST_LINE || count_spaces(line) != columns.len() + 2 {
         return Err(FileRefusal::Shape(number));
     }

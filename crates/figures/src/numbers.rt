@@ -1,6 +1,6 @@
 // Digits and figures.
 ghost use Rattle.std.specs.Prelude.{◌≡◌, ◌*◌, ◌^◌, ◌<◌, ◌≤◌, length, false, unsigned_abs, IfSome, IfOk};
-ghost use Rattle.figures.specs.Numbers.{number_of, told, value_on, counted, magnitude, bounded, stored_by, stored, storing, Stores};
+ghost use Rattle.figures.specs.Numbers.{number_of, told, value_on, counted, magnitude, bounded, stored, storing, Stores};
 ghost use Rattle.terms.specs.Limits.{most_stored};
 ghost use Rattle.terms.specs.Determinants.{decimals_of};
 
@@ -76,16 +76,13 @@ fn shifted(n: u64, places: usize) -> u64
     n * 10u64.pow(places as u32)
 }
 
-// A figure with no sign, times ten to the number of `decimals`.
-fn scaled(field: &[u8], decimals: usize) -> Option<u64>
-    requires { decimals ≤ 6 }
-    ensures { result ≡ magnitude decimals field.now }
+// A figure with no sign, times ten to the decimals.
+fn scaled(field: &[u8], determinant: Determinant) -> Option<u64>
+    ensures { result ≡ magnitude (decimals_of determinant) field.now }
 {
+    let decimals = determinant.decimals();
     match cut_at(field, b'.') {
-        None => {
-            let whole = number_of(field, 10)?;
-            Some(shifted(whole, decimals))
-        }
+        None => Some(shifted(number_of(field, 10)?, decimals)),
         Some((before, after)) => {
             let whole = number_of(before, 10)?;
             let part = number_of(after, decimals)?;
@@ -106,14 +103,13 @@ fn limited(figure: Option<u64>) -> Result<i64, Fault>
     Ok(size as i64)
 }
 
-// A figure with an optional minus, times ten to the number of `decimals`.
-fn signed_number(field: &[u8], decimals: usize) -> Result<i64, Fault>
-    requires { decimals ≤ 6 }
-    ensures { result ≡ stored_by decimals field.now }
+// A figure with an optional minus, times ten to the decimals.
+fn signed_number(field: &[u8], determinant: Determinant) -> Result<i64, Fault>
+    ensures { result ≡ stored determinant field.now }
 {
     match field {
-        [b'-', rest @ ..] => Ok(-limited(scaled(rest, decimals))?),
-        unsigned => limited(scaled(unsigned, decimals)),
+        [b'-', rest @ ..] => Ok(-limited(scaled(rest, determinant))?),
+        unsigned => limited(scaled(unsigned, determinant)),
     }
 }
 
@@ -123,5 +119,5 @@ pub fn stored_number(field: &[u8], determinant: Determinant) -> Result<i64, Faul
     ensures value { result ≡ stored determinant field.now }
     ensures law { Stores (decimals_of determinant) field.now result }
 {
-    signed_number(field, determinant.decimals())
+    signed_number(field, determinant)
 }

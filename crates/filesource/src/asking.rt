@@ -5,12 +5,13 @@ ghost use Rattle.terms.specs.Decisions.{decide, Decision};
 ghost use Rattle.terms.specs.declared.answer.Answer.TheVariants.{NoCut};
 ghost use Rattle.figures.specs.Tokens.{seen};
 ghost use Rattle.detfile.specs.Lines.{lines};
+ghost use Rattle.detfile.specs.Names.{columns_in};
 ghost use Rattle.detfile.specs.Values.{given_by};
 ghost use Rattle.filesource.specs.Parts.{columns, value_lines};
 ghost use Rattle.filesource.specs.Asks.{value_says, line_says, asked};
 ghost use Rattle.filesource.specs.AsksKept.{asked_laws};
 
-use crate::source::FileSource;
+use crate::source::{Content, FileSource};
 use detfile::fields::Fields;
 use detfile::key::Key;
 use detfile::lines::{Line, Lines};
@@ -32,34 +33,37 @@ fn field_answer(token: Token<'_>, determinant: Determinant, covers: bool) -> Ans
     }
 }
 
-// What the value lines answer: each line by its fields, until the determinant's column is found.
-fn ask_lines(columns: &[Determinant], values: &[u8], question: Question) -> Answer
-    ensures { result ≡ decide (line_says columns.now question.determinant question.unit question.day question.interval) NoCut (lines values.now) }
-{
-    let mut answer = Answer::NoCut;
-    'line: for line in Lines::new(values) {
-        let Line::Ended(line) = line else {
-            continue 'line;
-        };
-        let fields = Fields::cut(line);
-        let Ok(key) = Key::try_from(fields) else {
-            continue 'line;
-        };
-        if key.day != question.day || key.unit != question.unit {
-            continue 'line;
-        }
-        let covers = key.interval.covers(question.interval);
-        let mut rest = fields.values;
-        for d in columns {
-            let (token, after) = cut_token(rest);
-            if u32::from(*d) == question.determinant {
-                answer = answer.after(field_answer(token, *d, covers));
+impl Content<'_> {
+    // What the value lines answer: each line by its fields, until the determinant's column is found.
+    fn ask_lines(&self, question: Question) -> Answer
+        ensures { result ≡ decide (line_says (columns_in self.now.columns) question.determinant question.unit question.day question.interval) NoCut (lines self.now.values.now) }
+    {
+        let columns = self.columns.as_slice();
+        let mut answer = Answer::NoCut;
+        'line: for line in Lines::new(self.values) {
+            let Line::Ended(line) = line else {
+                continue 'line;
+            };
+            let fields = Fields::cut(line);
+            let Ok(key) = Key::try_from(fields) else {
+                continue 'line;
+            };
+            if key.day != question.day || key.unit != question.unit {
                 continue 'line;
             }
-            rest = after;
+            let covers = key.interval.covers(question.interval);
+            let mut rest = fields.values;
+            for d in columns {
+                let (token, after) = cut_token(rest);
+                if u32::from(*d) == question.determinant {
+                    answer = answer.after(field_answer(token, *d, covers));
+                    continue 'line;
+                }
+                rest = after;
+            }
         }
+        answer
     }
-    answer
 }
 
 impl<'a> Source for FileSource<'a> {
@@ -75,7 +79,7 @@ impl<'a> Source for FileSource<'a> {
             return Answer::NoCut;
         }
         match self.content {
-            Ok(content) => ask_lines(content.columns.as_slice(), content.values, question),
+            Ok(content) => content.ask_lines(question),
             Err(_) => Answer::NoCut,
         }
     }

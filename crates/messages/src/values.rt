@@ -1,7 +1,7 @@
 // What is wrong with a value line.
 use crate::quotes::{Quoted, is_space};
 use detfile::fields::Fields;
-use detfile::key::{Interval, day_of, unit_of};
+use detfile::key::{Interval, ranged_number};
 use detfile::names::MOST_LINE;
 use detfile::values::given_value;
 use figures::cutting::count_spaces;
@@ -43,13 +43,13 @@ pub(crate) fn write_field_fault<W: fmt::Write>(
         interval,
         values,
     } = Fields::cut(line);
-    if day_of(day).is_err() {
+    if ranged_number(day, 0, LAST_DAY).is_err() {
         let found = Quoted(day);
         write!(
             f,
             "field 1, DAY, is {found}; expected one to five digits, from 0 to {LAST_DAY}"
         )
-    } else if unit_of(unit).is_err() {
+    } else if ranged_number(unit, 0, LAST_UNIT).is_err() {
         let found = Quoted(unit);
         write!(
             f,

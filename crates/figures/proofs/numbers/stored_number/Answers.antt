@@ -1,7 +1,7 @@
-use Rattle.std.proofs.Common.{ℤ, Result, sym, ap, ◌∙◌, subst}
+use Rattle.std.proofs.Common.{ℤ, Result, sym, subst}
 use Rattle.terms.specs.Determinants.{decimals_of}
 use Rattle.figures.specs.declared.numbers.Fault.{Fault}
-use Rattle.figures.specs.Numbers.{stored_by, Stores}
+use Rattle.figures.specs.Numbers.{Stores}
 use Rattle.figures.proofs.Exactness.{stores}
 use Rattle.figures.proofs.numbers.stored_number.Goals as goal
 
@@ -9,5 +9,4 @@ pub returns-clause-law : goal.returns-clause-law
 returns-clause-law c =
     let bs = c.args.field.now in
     let d = decimals_of c.args.determinant in
-    let v = c.signed_number.ensures ∙ ap (λ n. stored_by n bs) c.decimals.ensures.value in
-    subst (λ (r : Result ℤ Fault). Stores d bs r) (sym v) (stores d bs)
+    subst (λ (r : Result ℤ Fault). Stores d bs r) (sym c.signed_number.ensures) (stores d bs)

@@ -2,9 +2,10 @@ use Rattle.std.proofs.Common.{◌≡◌, drop}
 use Rattle.terms.specs.Decisions.{decide}
 use Rattle.terms.specs.declared.answer.Answer.TheVariants.{NoCut}
 use Rattle.detfile.specs.Lines.{lines}
+use Rattle.detfile.specs.Names.{columns_in}
 use Rattle.detfile.specs.Walks.{lines_left}
 use Rattle.filesource.specs.Asks.{column_says, line_says}
-use Rattle.filesource.proofs.asking.ask_lines.Given as goal
+use Rattle.filesource.proofs.source.Content.ask_lines.Given as goal
 
 abbrev pub invariant-loop-d : goal.invariant-loop-d
 invariant-loop-d l =
@@ -14,4 +15,4 @@ invariant-loop-d l =
 abbrev pub invariant-line : goal.invariant-line
 invariant-line l =
     decide (line_says l.columns l.question.determinant l.question.unit l.question.day l.question.interval) l.answer (lines_left l.line-iterator)
-    ≡ decide (line_says l.columns l.question.determinant l.question.unit l.question.day l.question.interval) NoCut (lines l.values)
+    ≡ decide (line_says (columns_in l.self.columns) l.question.determinant l.question.unit l.question.day l.question.interval) NoCut (lines l.self.values.now)
