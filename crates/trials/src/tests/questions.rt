@@ -1,6 +1,8 @@
 // The ranges of a question, and how answers follow one another.
 use super::{Place, question};
 use terms::answer::Answer;
+use terms::determinant::Determinant;
+use terms::question::{Question, Slot};
 
 const INSIDE: [(Place, bool); 9] = [
     ([1, 0, 0, 1], true),
@@ -18,6 +20,34 @@ const INSIDE: [(Place, bool); 9] = [
 fn ranges(rt: HostRuntime) {
     for (place, inside) in &INSIDE {
         assert_eq!(rt; question(*place).is_inside(), *inside);
+    }
+}
+
+// A determinant, a unit, a day, an interval, and the question about them.
+const ABOUT: [(Determinant, u32, u32, u32, Place); 4] = [
+    (Determinant::Owner, 0, 0, 1, [1, 0, 0, 1]),
+    (Determinant::Rtspp, 2, 3, 4, [8, 2, 3, 4]),
+    (
+        Determinant::Vssvarpr,
+        127,
+        65_535,
+        96,
+        [13, 127, 65_535, 96],
+    ),
+    (Determinant::Lrs, 128, 65_536, 97, [12, 128, 65_536, 97]),
+];
+
+#[test]
+fn about(rt: HostRuntime) {
+    for (determinant, unit, day, interval, place) in &ABOUT {
+        let slot = Slot {
+            day: *day,
+            interval: *interval,
+        };
+        assert_eq!(rt;
+            Question::about(*determinant, *unit, slot),
+            question(*place)
+        );
     }
 }
 
