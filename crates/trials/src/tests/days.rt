@@ -24,16 +24,12 @@ fn check_day(rt: &impl Abort, run: &mut Run<HalfAway>) {
     let day = Day::small();
     let source = day.source();
     for interval in 1..=LAST_INTERVAL {
-        assert_eq!(rt;
-            run.interval(&source, interval, &mut [BLANK; 256]),
-            Ok(EACH)
-        );
+        let told = run.interval(&source, interval, &mut [BLANK; 256]);
+        assert_eq!(rt; told, Ok(EACH));
     }
     for interval in &PAST {
-        assert_eq!(rt;
-            number(run.interval(&source, *interval, &mut [BLANK; 256])),
-            12
-        );
+        let told = run.interval(&source, *interval, &mut [BLANK; 256]);
+        assert_eq!(rt; number(told), 12);
     }
 }
 

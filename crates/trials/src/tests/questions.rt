@@ -1,5 +1,6 @@
 // The ranges of a question, and how answers follow one another.
 use super::{Place, question};
+use std::test::Fail;
 use terms::answer::Answer;
 use terms::determinant::Determinant;
 use terms::question::{Question, Slot};
@@ -23,32 +24,23 @@ fn ranges(rt: HostRuntime) {
     }
 }
 
-// A determinant, a unit, a day, an interval, and the question about them.
-const ABOUT: [(Determinant, u32, u32, u32, Place); 4] = [
-    (Determinant::Owner, 0, 0, 1, [1, 0, 0, 1]),
-    (Determinant::Rtspp, 2, 3, 4, [8, 2, 3, 4]),
-    (
-        Determinant::Vssvarpr,
-        127,
-        65_535,
-        96,
-        [13, 127, 65_535, 96],
-    ),
-    (Determinant::Lrs, 128, 65_536, 97, [12, 128, 65_536, 97]),
+// Questions are put together inside the ranges and past them.
+const ASKED: [Place; 4] = [
+    [1, 0, 0, 1],
+    [8, 2, 3, 4],
+    [13, 127, 65_535, 96],
+    [12, 128, 65_536, 97],
 ];
 
 #[test]
-fn about(rt: HostRuntime) {
-    for (determinant, unit, day, interval, place) in &ABOUT {
-        let slot = Slot {
-            day: *day,
-            interval: *interval,
-        };
-        assert_eq!(rt;
-            Question::about(*determinant, *unit, slot),
-            question(*place)
-        );
+fn about(rt: HostRuntime) -> Result<(), Fail> {
+    for place in &ASKED {
+        let [number, unit, day, interval] = *place;
+        let determinant = Determinant::try_from(number)?;
+        let about = Question::about(determinant, unit, Slot { day, interval });
+        assert_eq!(rt; about, question(*place));
     }
+    Ok(())
 }
 
 // An answer, the next one, and what the two come to.

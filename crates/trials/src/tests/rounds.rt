@@ -3,6 +3,7 @@ use amounts::formulas::charge;
 use rounding::rule::Rounding;
 use rounding::rules::{HalfAway, HalfEven, NoRule, Rule};
 use std::process::Abort;
+use std::test::Fail;
 use worked::work::all_agree;
 
 const MOST: i64 = 1_000_000_000_000_000_000;
@@ -128,10 +129,15 @@ const WORDS: [(&str, Result<Rule, NoRule>); 6] = [
 ];
 
 #[test]
-fn words_of_rules(rt: HostRuntime) {
+fn words_of_rules(rt: HostRuntime) -> Result<(), Fail> {
     for (word, rule) in &WORDS {
         assert_eq!(rt; word.parse::<Rule>(), *rule, "{word}");
     }
+    assert_eq!(rt;
+        NoRule.to_string(rt.alloc())?.as_str(),
+        "no rounding rule; allowed are away and even"
+    );
+    Ok(())
 }
 
 #[test]

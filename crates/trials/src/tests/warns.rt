@@ -7,7 +7,7 @@ use sources::records::{Record, RecordSource};
 use std::process::Abort;
 use std::test::Fail;
 use terms::determinant::Determinant;
-use terms::question::LAST_INTERVAL;
+use terms::question::{LAST_INTERVAL, RESOURCES};
 
 fn row(cost: Determinant, resource: u32, hour: u32) -> Warning {
     Warning {
@@ -120,7 +120,7 @@ const UNPAID: [(u32, i64); 7] = [
 
 fn full_day() -> [Record; 898] {
     let mut day = [all_day(Determinant::Vssvarpr, 0, 265); 898];
-    for (records, unit) in day.chunks_exact_mut(7).zip(0..128) {
+    for (records, unit) in day.chunks_exact_mut(7).zip(0..RESOURCES as u32) {
         for (record, (determinant, number)) in records.iter_mut().zip(&UNPAID) {
             *record = numbered(*determinant, unit, *number);
         }
@@ -132,7 +132,7 @@ fn full_day() -> [Record; 898] {
 // Both costs of every Resource.
 fn full_rows() -> [Warning; 256] {
     let mut rows = [BLANK; 256];
-    for (pair, resource) in rows.chunks_exact_mut(2).zip(0..128) {
+    for (pair, resource) in rows.chunks_exact_mut(2).zip(0..RESOURCES as u32) {
         pair[0] = row(Determinant::Rthslaiec, resource, 1);
         pair[1] = row(Determinant::Rtvssaiec, resource, 1);
     }
