@@ -11,34 +11,29 @@ use terms::determinant::Determinant;
 type Told = Result<u32, (u32, u32)>;
 
 // A file, or a part of one, and the answer to it.
-type Case = (&'static [u8], Told);
+type Case<'a> = (&'a [u8], Told);
 
 fn told(file: &[u8]) -> Told {
-    match check_file(file) {
-        Ok(lines) => Ok(lines),
-        Err(refusal) => Err((refusal.number(), refusal.line())),
-    }
+    check_file(file).map_err(|refusal| (refusal.number(), refusal.line()))
 }
 
 // Each case's part of a file, put between `before` and `after`.
-fn check_within(
+fn check_within<'a>(
     rt: &impl Abort,
     heap: Global,
-    before: &[u8],
-    after: &[u8],
-    cases: &[Case],
+    before: &'a [u8],
+    after: &'a [u8],
+    cases: &[Case<'a>],
 ) -> Result<(), Fail> {
     for (i, (part, answer)) in cases.iter().enumerate() {
-        let mut file = before.to_vec(heap)?;
-        file.extend_from_slice(part)?;
-        file.extend_from_slice(after)?;
+        let file = [before, *part, after].concat(heap)?;
         assert_eq!(rt; told(file.as_slice()), *answer, "case {i}");
     }
     Ok(())
 }
 
 // Whole files, none of them with a value line.
-const NAMES: [Case; 35] = [
+const NAMES: [Case<'static>; 35] = [
     (b"", Err((2, 1))),
     (b"\n", Err((2, 1))),
     (b"\nDAY UNIT INT RTSPP\n", Err((2, 1))),
@@ -90,15 +85,13 @@ fn names_line(rt: HostRuntime) -> Result<(), Fail> {
 #[test]
 fn columns(rt: HostRuntime) -> Result<(), Fail> {
     assert!(rt; Columns::none().as_slice().is_empty());
-    let Some(columns) = columns_of(b"DAY UNIT INT LRS OWNER") else {
-        return Err(Fail::new("no names line"));
-    };
+    let columns = columns_of(b"DAY UNIT INT LRS OWNER").ok_or("no names line")?;
     assert!(rt; matches!(columns.as_slice(), [Determinant::Lrs, Determinant::Owner]));
     Ok(())
 }
 
 // Below the names of two determinants: how many fields, and where they are cut.
-const LINES: [Case; 28] = [
+const LINES: [Case<'static>; 28] = [
     (b"", Ok(0)),
     (b"1 2 3 4 5\n", Ok(1)),
     (b"1 2 3 4 5\n1 2 3 4 5\n1 2 * - -\n", Ok(3)),
@@ -130,7 +123,7 @@ const LINES: [Case; 28] = [
 ];
 
 // Two faults in one file: the earlier line, then the shape of the line, then the field to the left, then its form.
-const FAULTS: [Case; 12] = [
+const FAULTS: [Case<'static>; 12] = [
     (b"1 2 97 4 5\n1 2 3\n", Err((4, 2))),
     (b"1 2 3\n1 2 97 4 5\n", Err((3, 2))),
     (b"1 2 3 4 5\n1 2 3 4 1001\n1 2 3 4", Err((5, 3))),
@@ -153,7 +146,7 @@ fn value_lines(rt: HostRuntime) -> Result<(), Fail> {
 }
 
 // Day, unit and interval.
-const KEYS: [Case; 37] = [
+const KEYS: [Case<'static>; 37] = [
     (b"0 0 1", Ok(1)),
     (b"65535 127 96", Ok(1)),
     (b"00000 00000 00001", Ok(1)),
@@ -199,7 +192,7 @@ fn key_fields(rt: HostRuntime) -> Result<(), Fail> {
 }
 
 // A figure with up to two decimals.
-const FIGURES: [Case; 41] = [
+const FIGURES: [Case<'static>; 41] = [
     (b"-", Ok(1)),
     (b"0", Ok(1)),
     (b"-0", Ok(1)),
@@ -256,11 +249,9 @@ fn figures(rt: HostRuntime) -> Result<(), Fail> {
 
 // What a file of one value line with `length` bytes before its line feed is told: the last field is far too long.
 fn told_of_length(heap: Global, length: usize) -> Result<Told, Fail> {
-    let mut file = b"DAY UNIT INT RTSPP\n1 2 3 ".to_vec(heap)?;
-    for _ in 6..length {
-        file.push(b'1')?;
-    }
-    file.push(b'\n')?;
+    let mut line = b"1 2 3 ".to_vec(heap)?;
+    line.resize(length, b'1')?;
+    let file = [b"DAY UNIT INT RTSPP\n", line.as_slice(), b"\n"].concat(heap)?;
     Ok(told(file.as_slice()))
 }
 
@@ -272,13 +263,18 @@ fn long_lines(rt: HostRuntime) -> Result<(), Fail> {
     Ok(())
 }
 
-// Lines of 32 bytes, the first two together, fill a file to the most bytes; one byte more is too long.
+// A file of the most bytes: lines of 32, of which the first holds two.
+fn longest_file(heap: Global) -> Result<Vec<u8>, Fail> {
+    let line = b"00001 00002 00003 0000000004.00\n";
+    let mut file = b"DAY UNIT INT HSL\n1 2 3 00000004\n".to_vec(heap)?;
+    file.extend_from_slice(line.repeat(heap, MOST_BYTES / 32 - 1)?.as_slice())?;
+    Ok(file)
+}
+
+// One byte more is too long.
 #[test]
 fn long_files(rt: HostRuntime) -> Result<(), Fail> {
-    let mut file = b"DAY UNIT INT HSL\n1 2 3 00000004\n".to_vec(rt.alloc())?;
-    for _ in 1..MOST_BYTES / 32 {
-        file.extend_from_slice(b"00001 00002 00003 0000000004.00\n")?;
-    }
+    let mut file = longest_file(rt.alloc())?;
     assert_eq!(rt; file.len(), MOST_BYTES);
     assert_eq!(rt; told(file.as_slice()), Ok(524_288));
     file.push(b'\n')?;

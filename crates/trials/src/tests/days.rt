@@ -5,9 +5,10 @@ use rounding::rules::{HalfAway, HalfEven};
 use runs::day::RunDay;
 use runs::run::Run;
 use runs::working::Worked;
-use sources::records::RecordSource;
 use std::process::Abort;
 use std::test::Fail;
+use terms::determinant::Determinant;
+use terms::question::LAST_INTERVAL;
 
 const EACH: Worked = Worked {
     warnings: 0,
@@ -20,14 +21,15 @@ const EACH: Worked = Worked {
 const PAST: [u32; 4] = [97, 96, 1, 0];
 
 fn check_day(rt: &impl Abort, run: &mut Run<HalfAway>) {
-    let day = small_day();
-    for interval in 1..97 {
-        let mut list = [BLANK; 256];
-        assert_eq!(rt; call(run, &day, interval, &mut list), Ok(EACH));
+    let day = Day::small();
+    let source = day.source();
+    for interval in 1..=LAST_INTERVAL {
+        let told = run.interval(&source, interval, &mut [BLANK; 256]);
+        assert_eq!(rt; told, Ok(EACH));
     }
     for interval in &PAST {
-        let mut list = [BLANK; 256];
-        assert_eq!(rt; number(call(run, &day, *interval, &mut list)), 12);
+        let told = run.interval(&source, *interval, &mut [BLANK; 256]);
+        assert_eq!(rt; number(told), 12);
     }
 }
 
@@ -46,7 +48,7 @@ const FIRST_WHOLE: Amounts = Amounts {
 
 #[test]
 fn whole_day(rt: HostRuntime) -> Result<(), Fail> {
-    let mut run = open()?;
+    let mut run = open(HalfAway)?;
     check_day(&rt, &mut run);
     let sheet = run.close();
     check_sheet(&rt, &sheet, 96, &SHARES);
@@ -65,25 +67,21 @@ const EVEN_SHARES: [Share; 3] = [
 
 #[test]
 fn half_to_even(rt: HostRuntime) -> Result<(), Fail> {
-    let mut list = [BLANK; 256];
-    let mut run = Run::open(RunDay::check(DAY)?, HalfEven);
-    let told = run.interval(&RecordSource::new(&small_day()), 1, &mut list);
-    let sheet = run.close();
+    let first = work_first(HalfEven, &Day::small().source())?;
     let even = Worked {
         paid: -30_457,
         charges: 30_456,
         ..EACH
     };
-    assert_eq!(rt; told, Ok(even));
-    check_sheet(&rt, &sheet, 1, &EVEN_SHARES);
+    assert_eq!(rt; first.told, Ok(even));
+    check_sheet(&rt, &first.sheet, 1, &EVEN_SHARES);
     Ok(())
 }
 
 fn day_number(day: u32) -> u32 {
-    match RunDay::check(day) {
-        Ok(_) => 0,
-        Err(refusal) => refusal.number(),
-    }
+    RunDay::try_from(day)
+        .err()
+        .map_or(0, |refusal| refusal.number())
 }
 
 const DAYS: [(u32, u32); 4] = [(0, 0), (65_535, 0), (65_536, 7), (u32::MAX, 7)];
@@ -97,20 +95,14 @@ fn days(rt: HostRuntime) {
 
 #[test]
 fn nothing_worked(rt: HostRuntime) -> Result<(), Fail> {
-    let sheet = open()?.close();
+    let sheet = open(HalfAway)?.close();
     check_sheet(&rt, &sheet, 0, &SHARES);
     Ok(())
 }
 
 fn paid_of(day: &Day) -> Result<Option<i64>, Fail> {
-    let mut list = [BLANK; 256];
-    let mut run = open()?;
-    let told = call(&mut run, day, 1, &mut list);
-    let _ = run.close();
-    Ok(match told {
-        Ok(worked) => Some(worked.paid),
-        Err(_) => None,
-    })
+    let first = work_first(HalfAway, &day.source())?;
+    Ok(first.told.ok().map(|worked| worked.paid))
 }
 
 // A determinant, a unit, another number, and what is then paid: nothing instructed; at the limit; nothing delivered; a price below
@@ -140,11 +132,11 @@ const MISSING: [(u32, u32, i64); 7] = [
 #[test]
 fn payments(rt: HostRuntime) -> Result<(), Fail> {
     for (d, unit, number, paid) in &OTHER_NUMBERS {
-        let day = with(small_day(), [*d, *unit, DAY, 0], *number);
+        let day = Day::small().with(Determinant::try_from(*d)?, *unit, *number);
         assert_eq!(rt; paid_of(&day)?, Some(*paid), "{d} of {unit}: {number}");
     }
     for (d, unit, paid) in &MISSING {
-        let day = without(small_day(), *d, *unit);
+        let day = Day::small().without(Determinant::try_from(*d)?, *unit);
         assert_eq!(rt; paid_of(&day)?, Some(*paid), "{d} of {unit} missing");
     }
     Ok(())

@@ -1,6 +1,7 @@
 // The table of determinants.
 use std::test::Fail;
-use terms::determinant::{Determinant, Missing};
+use terms::determinant::{Determinant, Missing, NoDeterminant};
+use terms::question::LAST_DETERMINANT;
 
 const NUMBERED: [(u32, Option<Determinant>); 7] = [
     (0, None),
@@ -26,16 +27,35 @@ const NAMED: [(&[u8], Option<Determinant>); 8] = [
 #[test]
 fn finding(rt: HostRuntime) -> Result<(), Fail> {
     for (number, determinant) in &NUMBERED {
-        assert_eq!(rt; Determinant::from_number(*number), *determinant);
+        assert_eq!(rt; Determinant::try_from(*number).ok(), *determinant);
     }
     for (name, determinant) in &NAMED {
-        assert_eq!(rt; Determinant::from_name(name), *determinant);
+        assert_eq!(rt; Determinant::try_from(*name).ok(), *determinant);
     }
-    for number in 1..14 {
-        let d = Determinant::from_number(number).ok_or("no determinant")?;
-        assert_eq!(rt; d.number(), number);
-        assert_eq!(rt; Determinant::from_name(d.name()), Some(d));
+    for number in 1..=LAST_DETERMINANT {
+        let d = Determinant::try_from(number)?;
+        assert_eq!(rt; u32::from(d), number);
+        assert_eq!(rt; Determinant::try_from(d.name().as_bytes()), Ok(d));
     }
+    Ok(())
+}
+
+// What a determinant is printed as.
+const PRINTED: [(Determinant, &str); 3] = [
+    (Determinant::Owner, "OWNER"),
+    (Determinant::Rtvssaiec, "RTVSSAIEC"),
+    (Determinant::Vssvarpr, "VSSVARPR"),
+];
+
+#[test]
+fn printed(rt: HostRuntime) -> Result<(), Fail> {
+    for (d, name) in &PRINTED {
+        assert_eq!(rt; d.to_string(rt.alloc())?.as_str(), *name);
+    }
+    assert_eq!(rt;
+        NoDeterminant.to_string(rt.alloc())?.as_str(),
+        "no determinant has this number or name"
+    );
     Ok(())
 }
 

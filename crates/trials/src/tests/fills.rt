@@ -33,45 +33,36 @@ fn over_records(rt: HostRuntime) {
         record([4, 2, 1, 7], -40),
         record([5, 2, 1, 7], 50),
     ];
-    let source = ZeroFill {
-        below: RecordSource::new(&records),
-    };
-    check_asks(&rt, &source, &FILLED);
+    let below = RecordSource::new(&records);
+    check_asks(&rt, &ZeroFill { below }, &FILLED);
 }
 
 #[test]
 fn over_a_file(rt: HostRuntime) {
-    let source = ZeroFill {
-        below: FileSource::new(
-            b"DAY UNIT INT OWNER VSSVARIOL URLLAG URLLEAD RTVAR\n1 2 7 10 0.02 0.030 -0.04 0.05\n",
-        ),
-    };
-    check_asks(&rt, &source, &FILLED);
+    let below = FileSource::new(
+        b"DAY UNIT INT OWNER VSSVARIOL URLLAG URLLEAD RTVAR\n1 2 7 10 0.02 0.030 -0.04 0.05\n",
+    );
+    check_asks(&rt, &ZeroFill { below }, &FILLED);
 }
 
 // A dash for the interval is null all the same, and a column of dashes has no cut to fill.
+const DASHES: [Ask; 2] = [
+    ([3, 2, 1, 8], Answer::Figure(0)),
+    ([4, 2, 1, 8], Answer::NoCut),
+];
+
 #[test]
 fn over_dashes(rt: HostRuntime) {
-    let source = ZeroFill {
-        below: FileSource::new(b"DAY UNIT INT URLLAG URLLEAD\n1 2 7 5 -\n1 2 8 - -\n"),
-    };
-    check_asks(
-        &rt,
-        &source,
-        &[
-            ([3, 2, 1, 8], Answer::Figure(0)),
-            ([4, 2, 1, 8], Answer::NoCut),
-        ],
-    );
+    let below = FileSource::new(b"DAY UNIT INT URLLAG URLLEAD\n1 2 7 5 -\n1 2 8 - -\n");
+    check_asks(&rt, &ZeroFill { below }, &DASHES);
 }
 
 #[test]
 fn each_determinant(rt: HostRuntime) {
     for d in 0..16 {
-        let filled = if 2 <= d && d <= 4 {
-            Answer::Figure(0)
-        } else {
-            Answer::Null
+        let filled = match d {
+            2..=4 => Answer::Figure(0),
+            _ => Answer::Null,
         };
         assert_eq!(rt; zero_filled(d, Answer::Null), filled);
         assert_eq!(rt; zero_filled(d, Answer::NoCut), Answer::NoCut);

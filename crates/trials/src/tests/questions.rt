@@ -1,6 +1,9 @@
 // The ranges of a question, and how answers follow one another.
 use super::{Place, question};
+use std::test::Fail;
 use terms::answer::Answer;
+use terms::determinant::Determinant;
+use terms::question::{Question, Slot};
 
 const INSIDE: [(Place, bool); 9] = [
     ([1, 0, 0, 1], true),
@@ -19,6 +22,25 @@ fn ranges(rt: HostRuntime) {
     for (place, inside) in &INSIDE {
         assert_eq!(rt; question(*place).is_inside(), *inside);
     }
+}
+
+// Questions are put together inside the ranges and past them.
+const ASKED: [Place; 4] = [
+    [1, 0, 0, 1],
+    [8, 2, 3, 4],
+    [13, 127, 65_535, 96],
+    [12, 128, 65_536, 97],
+];
+
+#[test]
+fn about(rt: HostRuntime) -> Result<(), Fail> {
+    for place in &ASKED {
+        let [number, unit, day, interval] = *place;
+        let determinant = Determinant::try_from(number)?;
+        let about = Question::about(determinant, unit, Slot { day, interval });
+        assert_eq!(rt; about, question(*place));
+    }
+    Ok(())
 }
 
 // An answer, the next one, and what the two come to.

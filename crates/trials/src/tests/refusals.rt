@@ -1,23 +1,29 @@
 // Calls refused without a look at the source, in their order.
 use super::smallday::*;
 use rounding::rules::HalfAway;
-use runs::run::Run;
-use sources::records::Record;
+use sources::records::RecordSource;
 use std::process::Abort;
 use std::test::Fail;
+use terms::determinant::Determinant;
 
 // An interval, whether the list is one row short, and the number of the answer.
 type Call = (u32, bool, u32);
 
-fn check_calls(rt: &impl Abort, run: &mut Run<HalfAway>, day: &[Record], calls: &[Call]) {
+// A run's answers to calls, and the sheet that it ends with.
+fn check_calls(
+    rt: &impl Abort,
+    source: &RecordSource<'_>,
+    calls: &[Call],
+    worked: u32,
+) -> Result<(), Fail> {
+    let mut run = open(HalfAway)?;
     for (i, (interval, is_short, answer)) in calls.iter().enumerate() {
-        let told = if *is_short {
-            call(run, day, *interval, &mut [BLANK; 255])
-        } else {
-            call(run, day, *interval, &mut [BLANK; 256])
-        };
+        let rows = if *is_short { 255 } else { 256 };
+        let told = run.interval(source, *interval, &mut [BLANK; 256][..rows]);
         assert_eq!(rt; number(told), *answer, "call {i}");
     }
+    check_sheet(rt, &run.close(), worked, &SHARES);
+    Ok(())
 }
 
 const DUE: [Call; 13] = [
@@ -38,11 +44,7 @@ const DUE: [Call; 13] = [
 
 #[test]
 fn due_intervals(rt: HostRuntime) -> Result<(), Fail> {
-    let mut run = open()?;
-    check_calls(&rt, &mut run, &small_day(), &DUE);
-    let sheet = run.close();
-    check_sheet(&rt, &sheet, 2, &SHARES);
-    Ok(())
+    check_calls(&rt, &Day::small().source(), &DUE, 2)
 }
 
 // A wrong interval and a short list come before what is missing, and a stopped run before both.
@@ -59,20 +61,13 @@ const HALTING: [Call; 8] = [
 
 #[test]
 fn stopped_runs(rt: HostRuntime) -> Result<(), Fail> {
-    let mut run = open()?;
-    check_calls(&rt, &mut run, &without(small_day(), 13, 0), &HALTING);
-    let sheet = run.close();
-    check_sheet(&rt, &sheet, 0, &SHARES);
-    Ok(())
+    let day = Day::small().without(Determinant::Vssvarpr, 0);
+    check_calls(&rt, &day.source(), &HALTING, 0)
 }
 
 const EMPTY_LIST: [Call; 2] = [(1, false, 14), (1, false, 11)];
 
 #[test]
 fn no_records(rt: HostRuntime) -> Result<(), Fail> {
-    let mut run = open()?;
-    check_calls(&rt, &mut run, &[], &EMPTY_LIST);
-    let sheet = run.close();
-    check_sheet(&rt, &sheet, 0, &SHARES);
-    Ok(())
+    check_calls(&rt, &RecordSource::new(&[]), &EMPTY_LIST, 0)
 }

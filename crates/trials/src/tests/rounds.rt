@@ -1,8 +1,9 @@
 // The two rounding rules, and the amounts that they give.
 use amounts::formulas::charge;
 use rounding::rule::Rounding;
-use rounding::rules::{HalfAway, HalfEven};
+use rounding::rules::{HalfAway, HalfEven, NoRule, Rule};
 use std::process::Abort;
+use std::test::Fail;
 use worked::work::all_agree;
 
 const MOST: i64 = 1_000_000_000_000_000_000;
@@ -67,10 +68,8 @@ const REFUSED: [(i64, u32); 10] = [
 
 // The result, or the number of the answer.
 fn told<R: Rounding>(rule: &R, dividend: i64, divisor: u32) -> Result<i64, u32> {
-    match rule.round(dividend, divisor) {
-        Ok(x) => Ok(x),
-        Err(refusal) => Err(refusal.number()),
-    }
+    rule.round(dividend, divisor)
+        .map_err(|refusal| refusal.number())
 }
 
 // Whether a result times its divisor lies at most half the divisor away from the dividend.
@@ -79,18 +78,19 @@ fn is_near(dividend: i64, divisor: u32, res: i64) -> bool {
     off.unsigned_abs() <= divisor as u64 / 2
 }
 
+// A result, and that for the other sign.
 fn check_result<R: Rounding>(rt: &impl Abort, rule: &R, n: i64, d: u32, res: i64) {
-    assert!(rt; is_near(n, d, res), "{n} by {d}");
-    assert_eq!(rt; told(rule, n, d), Ok(res), "{n} by {d}");
+    for (n, res) in [(n, res), (n.wrapping_neg(), res.wrapping_neg())] {
+        assert!(rt; is_near(n, d, res), "{n} by {d}");
+        assert_eq!(rt; told(rule, n, d), Ok(res), "{n} by {d}");
+    }
 }
 
 #[test]
 fn results(rt: HostRuntime) {
     for (n, d, away, even) in &RESULTS {
         check_result(&rt, &HalfAway, *n, *d, *away);
-        check_result(&rt, &HalfAway, n.wrapping_neg(), *d, away.wrapping_neg());
         check_result(&rt, &HalfEven, *n, *d, *even);
-        check_result(&rt, &HalfEven, n.wrapping_neg(), *d, even.wrapping_neg());
     }
 }
 
@@ -100,6 +100,44 @@ fn refused(rt: HostRuntime) {
         assert_eq!(rt; told(&HalfAway, *n, *d), Err(6));
         assert_eq!(rt; told(&HalfEven, *n, *d), Err(6));
     }
+}
+
+// The rules that are chosen while a program runs give what the two types give.
+#[test]
+fn chosen_results(rt: HostRuntime) {
+    for (n, d, away, even) in &RESULTS {
+        check_result(&rt, &Rule::Away, *n, *d, *away);
+        check_result(&rt, &Rule::Even, *n, *d, *even);
+    }
+}
+
+#[test]
+fn refused_by_chosen(rt: HostRuntime) {
+    for (n, d) in &REFUSED {
+        assert_eq!(rt; told(&Rule::Away, *n, *d), Err(6));
+        assert_eq!(rt; told(&Rule::Even, *n, *d), Err(6));
+    }
+}
+
+const WORDS: [(&str, Result<Rule, NoRule>); 6] = [
+    ("away", Ok(Rule::Away)),
+    ("even", Ok(Rule::Even)),
+    ("", Err(NoRule)),
+    ("Away", Err(NoRule)),
+    ("evens", Err(NoRule)),
+    (" even", Err(NoRule)),
+];
+
+#[test]
+fn words_of_rules(rt: HostRuntime) -> Result<(), Fail> {
+    for (word, rule) in &WORDS {
+        assert_eq!(rt; word.parse::<Rule>(), *rule, "{word}");
+    }
+    assert_eq!(rt;
+        NoRule.to_string(rt.alloc())?.as_str(),
+        "no rounding rule; allowed are away and even"
+    );
+    Ok(())
 }
 
 #[test]

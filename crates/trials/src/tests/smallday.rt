@@ -5,10 +5,10 @@
 // Resource 1: -80,000 - max(-90,000, 4 * -25,000) = 10,000, and 265 * 10,000 / 4,000 = 662.5, so 663 away from zero and 662 to even;
 // 3,000 * (200,000 - 160,000) less 4,000 * 150,000 - 3,500 * 110,000 is below zero.
 // Together 30,458, of which a quarter is 7,614.5 and the half 15,229. To even: 30,457, 7,614.25 and 15,228.5.
-use super::{Place, record};
+use super::record;
 use amounts::row::Amounts;
 use intervals::warning::Warning;
-use rounding::rules::HalfAway;
+use rounding::rule::Rounding;
 use runs::day::RunDay;
 use runs::refusal::IntervalRefusal;
 use runs::run::Run;
@@ -17,11 +17,9 @@ use runs::working::Worked;
 use sources::records::{Record, RecordSource};
 use std::process::Abort;
 use std::test::Fail;
+use terms::determinant::Determinant;
 
 pub const DAY: u32 = 9;
-
-// The last record is one more price, for a trial to put another in its place.
-pub type Day = [Record; 27];
 
 // The determinants 1 to 11 of the Resources.
 const FIRST: [i64; 11] = [
@@ -42,68 +40,106 @@ pub const BLANK: Warning = Warning {
     hour: 77,
 };
 
-pub fn small_day() -> Day {
-    let mut day = [record([13, 0, DAY, 0], 265); 27];
-    for k in 0..11 {
-        day[k] = record([k as u32 + 1, 0, DAY, 0], FIRST[k]);
-        day[k + 11] = record([k as u32 + 1, 1, DAY, 0], SECOND[k]);
-    }
-    day[22] = record([12, 0, DAY, 0], 250_000);
-    day[23] = record([12, 1, DAY, 0], 250_000);
-    day[24] = record([12, 63, DAY, 0], 500_000);
-    day
+// A number for every interval of the day.
+pub fn numbered(determinant: u32, unit: u32, number: i64) -> Record {
+    record([determinant, unit, DAY, 0], number)
 }
 
-// The day without the numbers of a determinant and unit.
-pub fn without(day: Day, determinant: u32, unit: u32) -> Day {
-    let mut less = day;
-    for k in 0..27 {
-        if less[k].determinant == determinant && less[k].unit == unit {
-            less[k] = record([0, 0, 0, 0], 0);
+pub fn all_day(determinant: Determinant, unit: u32, number: i64) -> Record {
+    numbered(determinant.into(), unit, number)
+}
+
+// Numbers of a Resource: each record has that of the next determinant, from 1 on.
+fn write_resource(records: &mut [Record], unit: u32, numbers: &[i64; 11]) {
+    for ((record, number), determinant) in records.iter_mut().zip(numbers).zip(1..12) {
+        *record = numbered(determinant, unit, *number);
+    }
+}
+
+// The records of a day. The last is one more price, for a trial to put another in its place.
+#[derive(Clone, Copy)]
+pub struct Day {
+    records: [Record; 27],
+}
+
+impl Day {
+    pub fn small() -> Day {
+        let mut records = [all_day(Determinant::Vssvarpr, 0, 265); 27];
+        write_resource(&mut records[..11], 0, &FIRST);
+        write_resource(&mut records[11..22], 1, &SECOND);
+        records[22] = all_day(Determinant::Lrs, 0, 250_000);
+        records[23] = all_day(Determinant::Lrs, 1, 250_000);
+        records[24] = all_day(Determinant::Lrs, 63, 500_000);
+        Day { records }
+    }
+
+    pub fn source(&self) -> RecordSource<'_> {
+        RecordSource::new(&self.records)
+    }
+
+    // Puts a record in the place of each of a determinant and unit.
+    fn replace(&mut self, determinant: Determinant, unit: u32, other: Record) {
+        for record in &mut self.records {
+            if record.determinant == u32::from(determinant) && record.unit == unit {
+                *record = other;
+            }
         }
     }
-    less
-}
 
-// The day with one number more or another.
-pub fn with(day: Day, place: Place, number: i64) -> Day {
-    let mut more = day;
-    more[26] = record(place, number);
-    more
-}
-
-// The day with Resource 1 as Resource 127.
-pub fn moved(day: Day) -> Day {
-    let mut other = day;
-    for k in 0..27 {
-        if other[k].determinant <= 11 && other[k].unit == 1 {
-            other[k].unit = 127;
-        }
+    // The day with another number of a determinant and unit, where it has one.
+    pub fn changed(mut self, determinant: Determinant, unit: u32, number: i64) -> Day {
+        self.replace(determinant, unit, all_day(determinant, unit, number));
+        self
     }
-    other
+
+    // The day without the numbers of a determinant and unit.
+    pub fn without(mut self, determinant: Determinant, unit: u32) -> Day {
+        self.replace(determinant, unit, record([0, 0, 0, 0], 0));
+        self
+    }
+
+    // The day with one number more or another.
+    pub fn with(mut self, determinant: Determinant, unit: u32, number: i64) -> Day {
+        self.records[26] = all_day(determinant, unit, number);
+        self
+    }
+
+    // The day with Resource 1 as Resource 127.
+    pub fn moved(mut self) -> Day {
+        for record in &mut self.records {
+            if record.determinant <= 11 && record.unit == 1 {
+                record.unit = 127;
+            }
+        }
+        self
+    }
 }
 
 pub type Told = Result<Worked, IntervalRefusal>;
 
 // The number of an answer, 0 where the interval is accepted.
 pub fn number(told: Told) -> u32 {
-    match told {
-        Ok(_) => 0,
-        Err(refusal) => refusal.number(),
-    }
+    told.err().map_or(0, |refusal| refusal.number())
 }
 
-pub fn call(
-    run: &mut Run<HalfAway>,
-    day: &[Record],
-    interval: u32,
-    warnings: &mut [Warning],
-) -> Told {
-    run.interval(&RecordSource::new(day), interval, warnings)
+pub fn open<R: Rounding + Drop>(rule: R) -> Result<Run<R>, Fail> {
+    Ok(Run::open(RunDay::try_from(DAY)?, rule))
 }
 
-pub fn open() -> Result<Run<HalfAway>, Fail> {
-    Ok(Run::open(RunDay::check(DAY)?, HalfAway))
+// What interval 1 leaves: the answer, the list of warnings and the sheet.
+#[derive(Drop)]
+pub struct First {
+    pub told: Told,
+    pub list: [Warning; 256],
+    pub sheet: Sheet,
+}
+
+pub fn work_first<R: Rounding + Drop>(rule: R, source: &RecordSource<'_>) -> Result<First, Fail> {
+    let mut list = [BLANK; 256];
+    let mut run = open(rule)?;
+    let told = run.interval(source, 1, &mut list);
+    let sheet = run.close();
+    Ok(First { told, list, sheet })
 }
 
 // An entity and its three amounts in each interval.

@@ -1,43 +1,35 @@
 // What stops a run: a number that is missing or out of range, and shares that are not all of the load.
 use super::smallday::*;
-use intervals::fault::{Cause, Stop};
+use intervals::fault::{Cause, Fault, Stop};
 use rounding::rules::HalfAway;
 use runs::refusal::IntervalRefusal;
 use runs::run::Run;
 use std::process::Abort;
 use std::test::Fail;
 use terms::determinant::Determinant;
+use terms::question::{LAST_DETERMINANT, Slot};
 
 fn check_four(rt: &impl Abort, run: &mut Run<HalfAway>) {
-    let day = small_day();
+    let day = Day::small();
     for interval in 1..5 {
-        let mut list = [BLANK; 256];
-        assert_eq!(rt; number(call(run, &day, interval, &mut list)), 0);
+        let told = run.interval(&day.source(), interval, &mut [BLANK; 256]);
+        assert_eq!(rt; number(told), 0);
     }
 }
 
 // Four intervals are worked, the fifth is over a day that stops it, and the sheet is as after the fourth.
-fn check_stop(
-    rt: &impl Abort,
-    day: &Day,
-    cause: Cause,
-    determinant: Determinant,
-    unit: u32,
-    warnings: usize,
-) -> Result<(), Fail> {
-    let mut list = [BLANK; 256];
-    let mut run = open()?;
+fn check_stop(rt: &impl Abort, day: &Day, fault: Fault, warnings: usize) -> Result<(), Fail> {
+    let mut run = open(HalfAway)?;
     check_four(rt, &mut run);
-    let told = call(&mut run, day, 5, &mut list);
-    let mut other = [BLANK; 256];
-    let next = call(&mut run, &small_day(), 5, &mut other);
+    let told = run.interval(&day.source(), 5, &mut [BLANK; 256]);
+    let next = run.interval(&Day::small().source(), 5, &mut [BLANK; 256]);
     let sheet = run.close();
     let stop = Stop {
-        cause,
-        determinant,
-        unit,
-        day: DAY,
-        interval: 5,
+        fault,
+        slot: Slot {
+            day: DAY,
+            interval: 5,
+        },
         warnings,
     };
     assert_eq!(rt; told, Err(IntervalRefusal::Halted(stop)));
@@ -48,12 +40,31 @@ fn check_stop(
 
 // The number of the answer to interval 1.
 fn answer_to(day: &Day) -> Result<u32, Fail> {
-    let mut list = [BLANK; 256];
-    let mut run = open()?;
-    let told = call(&mut run, day, 1, &mut list);
-    let _ = run.close();
-    Ok(number(told))
+    let first = work_first(HalfAway, &day.source())?;
+    Ok(number(first.told))
 }
+
+fn missing_at(determinant: Determinant, unit: u32) -> Fault {
+    Fault {
+        cause: Cause::Missing,
+        determinant,
+        unit,
+    }
+}
+
+fn out_of_range_at(determinant: Determinant, unit: u32) -> Fault {
+    Fault {
+        cause: Cause::OutOfRange,
+        determinant,
+        unit,
+    }
+}
+
+const SHARES_NOT_WHOLE: Fault = Fault {
+    cause: Cause::Shares,
+    determinant: Determinant::Lrs,
+    unit: 0,
+};
 
 const NEEDED: [Determinant; 5] = [
     Determinant::Urllag,
@@ -71,11 +82,10 @@ const FAR: i64 = 1_000_000_000;
 fn missing(rt: HostRuntime) -> Result<(), Fail> {
     for d in &NEEDED {
         for unit in 0..2 {
-            let day = without(small_day(), d.number(), unit);
-            check_stop(&rt, &day, Cause::Missing, *d, unit, 0)?;
-            let next = d.number().wrapping_add(1);
-            let both = with(day, [next, unit, DAY, 0], FAR);
-            check_stop(&rt, &both, Cause::Missing, *d, unit, 0)?;
+            let day = Day::small().without(*d, unit);
+            check_stop(&rt, &day, missing_at(*d, unit), 0)?;
+            let next = Determinant::try_from(u32::from(*d).wrapping_add(1))?;
+            check_stop(&rt, &day.with(next, unit, FAR), missing_at(*d, unit), 0)?;
         }
     }
     Ok(())
@@ -84,33 +94,35 @@ fn missing(rt: HostRuntime) -> Result<(), Fail> {
 // The price is asked first, and the shares last.
 #[test]
 fn missing_price(rt: HostRuntime) -> Result<(), Fail> {
-    let day = without(small_day(), 13, 0);
-    check_stop(&rt, &day, Cause::Missing, Determinant::Vssvarpr, 0, 0)?;
-    let owner = with(day, [1, 0, DAY, 0], 64);
-    check_stop(&rt, &owner, Cause::Missing, Determinant::Vssvarpr, 0, 0)?;
-    let share = with(without(small_day(), 8, 1), [12, 0, DAY, 0], FAR);
-    check_stop(&rt, &share, Cause::Missing, Determinant::Rtspp, 1, 0)
+    let day = Day::small().without(Determinant::Vssvarpr, 0);
+    check_stop(&rt, &day, missing_at(Determinant::Vssvarpr, 0), 0)?;
+    let owner = day.with(Determinant::Owner, 0, 64);
+    check_stop(&rt, &owner, missing_at(Determinant::Vssvarpr, 0), 0)?;
+    let share = Day::small()
+        .without(Determinant::Rtspp, 1)
+        .with(Determinant::Lrs, 0, FAR);
+    check_stop(&rt, &share, missing_at(Determinant::Rtspp, 1), 0)
 }
 
 fn check_range(rt: &impl Abort, d: Determinant, unit: u32) -> Result<(), Fail> {
-    let place = [d.number(), unit, DAY, 0];
-    let below = with(small_day(), place, d.low().wrapping_sub(1));
-    check_stop(rt, &below, Cause::OutOfRange, d, unit, 0)?;
-    let above = with(small_day(), place, d.high().wrapping_add(1));
-    check_stop(rt, &above, Cause::OutOfRange, d, unit, 0)?;
-    let inside = if d.number() == 12 { 16 } else { 0 };
-    assert_eq!(rt; answer_to(&with(small_day(), place, d.low()))?, inside);
-    assert_eq!(rt; answer_to(&with(small_day(), place, d.high()))?, inside);
+    let day = Day::small();
+    for number in [d.low().wrapping_sub(1), d.high().wrapping_add(1)] {
+        check_stop(rt, &day.with(d, unit, number), out_of_range_at(d, unit), 0)?;
+    }
+    let inside = if d == Determinant::Lrs { 16 } else { 0 };
+    for number in [d.low(), d.high()] {
+        assert_eq!(rt; answer_to(&day.with(d, unit, number))?, inside);
+    }
     Ok(())
 }
 
 // At the ends of each range; a share at the ends of its range leaves the sum wrong, and one past them is named itself.
 #[test]
 fn ranges(rt: HostRuntime) -> Result<(), Fail> {
-    for number in 1..14 {
-        let d = Determinant::from_number(number).ok_or("no determinant")?;
+    for number in 1..=LAST_DETERMINANT {
+        let d = Determinant::try_from(number)?;
         check_range(&rt, d, 0)?;
-        if number != 13 {
+        if d != Determinant::Vssvarpr {
             check_range(&rt, d, 1)?;
         }
     }
@@ -120,12 +132,14 @@ fn ranges(rt: HostRuntime) -> Result<(), Fail> {
 // An owner is asked before an instruction, and a Resource without an owner is asked no more.
 #[test]
 fn owners(rt: HostRuntime) -> Result<(), Fail> {
-    let idle = without(small_day(), 2, 0);
-    let wrong = with(idle, [1, 0, DAY, 0], 64);
-    check_stop(&rt, &wrong, Cause::OutOfRange, Determinant::Owner, 0, 0)?;
-    let limit = with(idle, [3, 0, DAY, 0], FAR);
+    let idle = Day::small().without(Determinant::Vssvariol, 0);
+    let wrong = idle.with(Determinant::Owner, 0, 64);
+    check_stop(&rt, &wrong, out_of_range_at(Determinant::Owner, 0), 0)?;
+    let limit = idle.with(Determinant::Urllag, 0, FAR);
     assert_eq!(rt; answer_to(&limit)?, 0);
-    let unowned = with(without(small_day(), 1, 0), [2, 0, DAY, 0], FAR);
+    let unowned = Day::small()
+        .without(Determinant::Owner, 0)
+        .with(Determinant::Vssvariol, 0, FAR);
     assert_eq!(rt; answer_to(&unowned)?, 0);
     Ok(())
 }
@@ -142,33 +156,30 @@ const SUMS: [(i64, u32); 5] = [
 #[test]
 fn sums_of_shares(rt: HostRuntime) -> Result<(), Fail> {
     for (share, answer) in &SUMS {
-        let day = with(small_day(), [12, 63, DAY, 0], *share);
+        let day = Day::small().with(Determinant::Lrs, 63, *share);
         assert_eq!(rt; answer_to(&day)?, *answer);
         if *answer == 16 {
-            check_stop(&rt, &day, Cause::Shares, Determinant::Lrs, 0, 0)?;
+            check_stop(&rt, &day, SHARES_NOT_WHOLE, 0)?;
         }
     }
-    let day = without(small_day(), 12, 63);
-    check_stop(&rt, &day, Cause::Shares, Determinant::Lrs, 0, 0)?;
+    let day = Day::small().without(Determinant::Lrs, 63);
+    check_stop(&rt, &day, SHARES_NOT_WHOLE, 0)?;
     // Unit 64 is no entity, so its share is not asked.
-    assert_eq!(rt; answer_to(&with(small_day(), [12, 64, DAY, 0], 1))?, 0);
+    assert_eq!(rt; answer_to(&Day::small().with(Determinant::Lrs, 64, 1))?, 0);
     Ok(())
 }
 
 // Warning rows written before the stop are told.
 #[test]
 fn stops_after_warnings(rt: HostRuntime) -> Result<(), Fail> {
-    let day = with(without(small_day(), 9, 0), [10, 0, DAY, 0], FAR);
-    check_stop(&rt, &day, Cause::OutOfRange, Determinant::Rtvssaiec, 0, 1)?;
-    let both = without(without(small_day(), 9, 0), 10, 0);
-    check_stop(
-        &rt,
-        &without(both, 3, 1),
-        Cause::Missing,
-        Determinant::Urllag,
-        1,
-        2,
-    )?;
-    let share = with(without(both, 9, 1), [12, 63, DAY, 0], 499_999);
-    check_stop(&rt, &share, Cause::Shares, Determinant::Lrs, 0, 3)
+    let costless = Day::small().without(Determinant::Rthslaiec, 0);
+    let far = costless.with(Determinant::Rtvssaiec, 0, FAR);
+    check_stop(&rt, &far, out_of_range_at(Determinant::Rtvssaiec, 0), 1)?;
+    let both = costless.without(Determinant::Rtvssaiec, 0);
+    let limit = both.without(Determinant::Urllag, 1);
+    check_stop(&rt, &limit, missing_at(Determinant::Urllag, 1), 2)?;
+    let share = both
+        .without(Determinant::Rthslaiec, 1)
+        .with(Determinant::Lrs, 63, 499_999);
+    check_stop(&rt, &share, SHARES_NOT_WHOLE, 3)
 }

@@ -1,16 +1,17 @@
 // The list of warnings.
-use super::record;
 use super::smallday::*;
 use intervals::warning::Warning;
 use rounding::rules::HalfAway;
 use runs::run::Run;
-use sources::records::Record;
+use sources::records::{Record, RecordSource};
 use std::process::Abort;
 use std::test::Fail;
+use terms::determinant::Determinant;
+use terms::question::{LAST_INTERVAL, RESOURCES};
 
-fn row(determinant: u32, resource: u32, hour: u32) -> Warning {
+fn row(cost: Determinant, resource: u32, hour: u32) -> Warning {
     Warning {
-        determinant,
+        determinant: cost.into(),
         resource,
         day: DAY,
         hour,
@@ -18,35 +19,36 @@ fn row(determinant: u32, resource: u32, hour: u32) -> Warning {
 }
 
 // How many rows a call says it has written.
-fn rows_told(told: Told) -> usize {
-    match told {
-        Ok(worked) => worked.warnings,
-        Err(_) => 999,
-    }
+fn rows_told(told: Told) -> Option<usize> {
+    told.ok().map(|worked| worked.warnings)
 }
 
 // The rows, and then rows as they were before.
 fn check_rows(rt: &impl Abort, list: &[Warning; 256], rows: &[Warning]) {
-    for k in 0..256 {
+    for (k, row) in list.iter().enumerate() {
         let expected = rows.get(k).copied().unwrap_or(BLANK);
-        assert_eq!(rt; list[k], expected, "row {k}");
+        assert_eq!(rt; *row, expected, "row {k}");
     }
 }
 
-fn check_hours(rt: &impl Abort, run: &mut Run<HalfAway>, day: &Day) {
-    for interval in 1..97 {
+// What is missing of the costless day, in an hour.
+fn costless_rows(hour: u32) -> [Warning; 3] {
+    [
+        row(Determinant::Rthslaiec, 0, hour),
+        row(Determinant::Rtvssaiec, 0, hour),
+        row(Determinant::Rtvssaiec, 127, hour),
+    ]
+}
+
+fn check_hours(rt: &impl Abort, run: &mut Run<HalfAway>, source: &RecordSource<'_>) {
+    for interval in 1..=LAST_INTERVAL {
         let mut list = [BLANK; 256];
-        let count = rows_told(call(run, day, interval, &mut list));
+        let count = rows_told(run.interval(source, interval, &mut list));
         if interval % 4 == 1 {
-            let hour = interval / 4 + 1;
-            assert_eq!(rt; count, 3);
-            check_rows(
-                rt,
-                &list,
-                &[row(9, 0, hour), row(10, 0, hour), row(10, 127, hour)],
-            );
+            assert_eq!(rt; count, Some(3));
+            check_rows(rt, &list, &costless_rows(interval / 4 + 1));
         } else {
-            assert_eq!(rt; count, 0);
+            assert_eq!(rt; count, Some(0));
             check_rows(rt, &list, &[]);
         }
     }
@@ -54,8 +56,11 @@ fn check_hours(rt: &impl Abort, run: &mut Run<HalfAway>, day: &Day) {
 
 // Resource 127 for Resource 1, with a cost missing of it and both of Resource 0.
 fn costless() -> Day {
-    let both = without(without(small_day(), 9, 0), 10, 0);
-    without(moved(both), 10, 127)
+    Day::small()
+        .without(Determinant::Rthslaiec, 0)
+        .without(Determinant::Rtvssaiec, 0)
+        .moved()
+        .without(Determinant::Rtvssaiec, 127)
 }
 
 // 795 and 663 are paid: a quarter is 364.5, the half 729.
@@ -68,8 +73,8 @@ const COSTLESS: [Share; 4] = [
 
 #[test]
 fn first_of_the_hour(rt: HostRuntime) -> Result<(), Fail> {
-    let mut run = open()?;
-    check_hours(&rt, &mut run, &costless());
+    let mut run = open(HalfAway)?;
+    check_hours(&rt, &mut run, &costless().source());
     let sheet = run.close();
     check_sheet(&rt, &sheet, 96, &COSTLESS);
     Ok(())
@@ -80,38 +85,25 @@ const IDLE: [Share; 2] = [(0, [0, 0, 166]), (63, [-663, 0, 332])];
 
 #[test]
 fn nothing_instructed(rt: HostRuntime) -> Result<(), Fail> {
-    let mut run = open()?;
-    let idle = with(costless(), [2, 0, DAY, 0], 0);
-    let mut list = [BLANK; 256];
-    let told = call(&mut run, &with_owner(idle), 1, &mut list);
-    let sheet = run.close();
-    assert_eq!(rt; rows_told(told), 3);
-    check_rows(&rt, &list, &[row(9, 0, 1), row(10, 0, 1), row(10, 127, 1)]);
-    check_sheet(&rt, &sheet, 1, &IDLE);
+    let day = costless()
+        .with(Determinant::Vssvariol, 0, 0)
+        .changed(Determinant::Owner, 127, 63);
+    let first = work_first(HalfAway, &day.source())?;
+    assert_eq!(rt; rows_told(first.told), Some(3));
+    check_rows(&rt, &first.list, &costless_rows(1));
+    check_sheet(&rt, &first.sheet, 1, &IDLE);
     Ok(())
-}
-
-// Resource 127 as entity 63's.
-fn with_owner(day: Day) -> Day {
-    let mut other = day;
-    for k in 0..27 {
-        if other[k].determinant == 1 && other[k].unit == 127 {
-            other[k].number = 63;
-        }
-    }
-    other
 }
 
 // One cost of Resource 0 is missing, and the other is out of range.
 #[test]
 fn row_before_a_stop(rt: HostRuntime) -> Result<(), Fail> {
-    let day = with(without(small_day(), 9, 0), [10, 0, DAY, 0], 1_000_001);
-    let mut list = [BLANK; 256];
-    let mut run = open()?;
-    let told = call(&mut run, &day, 1, &mut list);
-    let _ = run.close();
-    assert_eq!(rt; number(told), 15);
-    check_rows(&rt, &list, &[row(9, 0, 1)]);
+    let day = Day::small()
+        .without(Determinant::Rthslaiec, 0)
+        .with(Determinant::Rtvssaiec, 0, 1_000_001);
+    let first = work_first(HalfAway, &day.source())?;
+    assert_eq!(rt; number(first.told), 15);
+    check_rows(&rt, &first.list, &[row(Determinant::Rthslaiec, 0, 1)]);
     Ok(())
 }
 
@@ -127,30 +119,30 @@ const UNPAID: [(u32, i64); 7] = [
 ];
 
 fn full_day() -> [Record; 898] {
-    let mut day = [record([13, 0, DAY, 0], 265); 898];
-    for k in 0..896 {
-        let (determinant, number) = UNPAID[k % 7];
-        day[k] = record([determinant, k as u32 / 7, DAY, 0], number);
+    let mut day = [all_day(Determinant::Vssvarpr, 0, 265); 898];
+    for (records, unit) in day.chunks_exact_mut(7).zip(0..RESOURCES as u32) {
+        for (record, (determinant, number)) in records.iter_mut().zip(&UNPAID) {
+            *record = numbered(*determinant, unit, *number);
+        }
     }
-    day[897] = record([12, 63, DAY, 0], 1_000_000);
+    day[897] = all_day(Determinant::Lrs, 63, 1_000_000);
     day
 }
 
-fn check_full(rt: &impl Abort, list: &[Warning; 256]) {
-    for k in 0..256 {
-        let n = k as u32;
-        assert_eq!(rt; list[k], row(9 + n % 2, n / 2, 1), "row {k}");
+// Both costs of every Resource.
+fn full_rows() -> [Warning; 256] {
+    let mut rows = [BLANK; 256];
+    for (pair, resource) in rows.chunks_exact_mut(2).zip(0..RESOURCES as u32) {
+        pair[0] = row(Determinant::Rthslaiec, resource, 1);
+        pair[1] = row(Determinant::Rtvssaiec, resource, 1);
     }
+    rows
 }
 
 #[test]
 fn full_list(rt: HostRuntime) -> Result<(), Fail> {
-    let day = full_day();
-    let mut list = [BLANK; 256];
-    let mut run = open()?;
-    let told = call(&mut run, &day, 1, &mut list);
-    let _ = run.close();
-    assert_eq!(rt; rows_told(told), 256);
-    check_full(&rt, &list);
+    let first = work_first(HalfAway, &RecordSource::new(&full_day()))?;
+    assert_eq!(rt; rows_told(first.told), Some(256));
+    check_rows(&rt, &first.list, &full_rows());
     Ok(())
 }
