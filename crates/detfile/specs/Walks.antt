@@ -7,9 +7,9 @@ use Rattle.detfile.specs.Lines.{ended, unended, lines}
 use Rattle.detfile.specs.Lines as file
 
 -- a line with its bytes
-abbrev pub line_of : Line → file.Line
-line_of (Ended l) = ended l.now
-line_of (Unended l) = unended l.now
+abbrev pub file_line : Line → file.Line
+file_line (Ended l) = ended l.now
+file_line (Unended l) = unended l.now
 
 abbrev pub lines_left : Lines → List file.Line
 lines_left s = lines s.rest.now

@@ -2,7 +2,7 @@
 ghost use Rattle.std.specs.Prelude.{◌≡◌};
 ghost use Rattle.std.specs.Iterator.{YieldsFirstBy, item_count};
 ghost use Rattle.detfile.specs.Lines.{lines};
-ghost use Rattle.detfile.specs.Walks.{line_of, lines_left};
+ghost use Rattle.detfile.specs.Walks.{file_line, lines_left};
 
 use crate::check::cut_line;
 
@@ -30,7 +30,7 @@ impl<'a> Lines<'a> {
 impl<'a> Iterator for Lines<'a> {
     type Item = Line<'a>;
 
-    ghost next_gives = { YieldsFirstBy line_of lines_left };
+    ghost next_gives = { YieldsFirstBy file_line lines_left };
 
     ghost remaining = { item_count lines_left };
 
