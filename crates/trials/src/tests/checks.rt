@@ -11,29 +11,28 @@ use terms::determinant::Determinant;
 type Told = Result<u32, (u32, u32)>;
 
 // A file, or a part of one, and the answer to it.
-type Case<'a> = (&'a [u8], Told);
+type Case = (&'static [u8], Told);
 
 fn told(file: &[u8]) -> Told {
     check_file(file).map_err(|refusal| (refusal.number(), refusal.line()))
 }
 
 // Each case's part of a file, put between `before` and `after`.
-fn check_within<'a>(
-    rt: &impl Abort,
-    heap: Global,
-    before: &'a [u8],
-    after: &'a [u8],
-    cases: &[Case<'a>],
+fn check_within<R: Abort + AllocGlobal>(
+    rt: &R,
+    before: &'static [u8],
+    after: &'static [u8],
+    cases: &[Case],
 ) -> Result<(), Fail> {
     for (i, (part, answer)) in cases.iter().enumerate() {
-        let file = [before, *part, after].concat(heap)?;
+        let file = [before, *part, after].concat(rt.alloc())?;
         assert_eq!(rt; told(file.as_slice()), *answer, "case {i}");
     }
     Ok(())
 }
 
 // Whole files, none of them with a value line.
-const NAMES: [Case<'static>; 35] = [
+const NAMES: [Case; 35] = [
     (b"", Err((2, 1))),
     (b"\n", Err((2, 1))),
     (b"\nDAY UNIT INT RTSPP\n", Err((2, 1))),
@@ -79,7 +78,7 @@ const NAMES: [Case<'static>; 35] = [
 
 #[test]
 fn names_line(rt: HostRuntime) -> Result<(), Fail> {
-    check_within(&rt, rt.alloc(), b"", b"", &NAMES)
+    check_within(&rt, b"", b"", &NAMES)
 }
 
 #[test]
@@ -91,7 +90,7 @@ fn columns(rt: HostRuntime) -> Result<(), Fail> {
 }
 
 // Below the names of two determinants: how many fields, and where they are cut.
-const LINES: [Case<'static>; 28] = [
+const LINES: [Case; 28] = [
     (b"", Ok(0)),
     (b"1 2 3 4 5\n", Ok(1)),
     (b"1 2 3 4 5\n1 2 3 4 5\n1 2 * - -\n", Ok(3)),
@@ -123,7 +122,7 @@ const LINES: [Case<'static>; 28] = [
 ];
 
 // Two faults in one file: the earlier line, then the shape of the line, then the field to the left, then its form.
-const FAULTS: [Case<'static>; 12] = [
+const FAULTS: [Case; 12] = [
     (b"1 2 97 4 5\n1 2 3\n", Err((4, 2))),
     (b"1 2 3\n1 2 97 4 5\n", Err((3, 2))),
     (b"1 2 3 4 5\n1 2 3 4 1001\n1 2 3 4", Err((5, 3))),
@@ -141,12 +140,12 @@ const FAULTS: [Case<'static>; 12] = [
 #[test]
 fn value_lines(rt: HostRuntime) -> Result<(), Fail> {
     let names = b"DAY UNIT INT RTSPP LRS\n";
-    check_within(&rt, rt.alloc(), names, b"", &LINES)?;
-    check_within(&rt, rt.alloc(), names, b"", &FAULTS)
+    check_within(&rt, names, b"", &LINES)?;
+    check_within(&rt, names, b"", &FAULTS)
 }
 
 // Day, unit and interval.
-const KEYS: [Case<'static>; 37] = [
+const KEYS: [Case; 37] = [
     (b"0 0 1", Ok(1)),
     (b"65535 127 96", Ok(1)),
     (b"00000 00000 00001", Ok(1)),
@@ -188,11 +187,11 @@ const KEYS: [Case<'static>; 37] = [
 
 #[test]
 fn key_fields(rt: HostRuntime) -> Result<(), Fail> {
-    check_within(&rt, rt.alloc(), b"DAY UNIT INT RTSPP\n", b" 4\n", &KEYS)
+    check_within(&rt, b"DAY UNIT INT RTSPP\n", b" 4\n", &KEYS)
 }
 
 // A figure with up to two decimals.
-const FIGURES: [Case<'static>; 41] = [
+const FIGURES: [Case; 41] = [
     (b"-", Ok(1)),
     (b"0", Ok(1)),
     (b"-0", Ok(1)),
@@ -238,13 +237,7 @@ const FIGURES: [Case<'static>; 41] = [
 
 #[test]
 fn figures(rt: HostRuntime) -> Result<(), Fail> {
-    check_within(
-        &rt,
-        rt.alloc(),
-        b"DAY UNIT INT RTSPP\n1 2 3 ",
-        b"\n",
-        &FIGURES,
-    )
+    check_within(&rt, b"DAY UNIT INT RTSPP\n1 2 3 ", b"\n", &FIGURES)
 }
 
 // What a file of one value line with `length` bytes before its line feed is told: the last field is far too long.
@@ -263,7 +256,7 @@ fn long_lines(rt: HostRuntime) -> Result<(), Fail> {
     Ok(())
 }
 
-// A file of the most bytes: lines of 32, of which the first holds two.
+// A file of the most bytes: lines of 32 bytes each, the first two together.
 fn longest_file(heap: Global) -> Result<Vec<u8>, Fail> {
     let line = b"00001 00002 00003 0000000004.00\n";
     let mut file = b"DAY UNIT INT HSL\n1 2 3 00000004\n".to_vec(heap)?;

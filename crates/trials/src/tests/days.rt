@@ -3,35 +3,12 @@ use super::smallday::*;
 use amounts::row::Amounts;
 use rounding::rules::{HalfAway, HalfEven};
 use runs::day::RunDay;
-use runs::run::Run;
 use runs::working::Worked;
-use std::process::Abort;
 use std::test::Fail;
 use terms::determinant::Determinant;
-use terms::question::LAST_INTERVAL;
-
-const EACH: Worked = Worked {
-    warnings: 0,
-    paid: PAID,
-    charges: 30_459,
-    charged: 3,
-};
 
 // None of them is due after the last.
 const PAST: [u32; 4] = [97, 96, 1, 0];
-
-fn check_day(rt: &impl Abort, run: &mut Run<HalfAway>) {
-    let day = Day::small();
-    let source = day.source();
-    for interval in 1..=LAST_INTERVAL {
-        let told = run.interval(&source, interval, &mut [BLANK; 256]);
-        assert_eq!(rt; told, Ok(EACH));
-    }
-    for interval in &PAST {
-        let told = run.interval(&source, *interval, &mut [BLANK; 256]);
-        assert_eq!(rt; number(told), 12);
-    }
-}
 
 // 96 times 795 and 663, 29,000, 7,615 twice and 15,229.
 const WHOLE: Amounts = Amounts {
@@ -49,7 +26,12 @@ const FIRST_WHOLE: Amounts = Amounts {
 #[test]
 fn whole_day(rt: HostRuntime) -> Result<(), Fail> {
     let mut run = open(HalfAway)?;
-    check_day(&rt, &mut run);
+    check_intervals(&rt, &mut run, 96);
+    let day = Day::small();
+    for interval in &PAST {
+        let told = run.interval(&day.source(), *interval, &mut [BLANK; 256]);
+        assert_eq!(rt; number(told), 12);
+    }
     let sheet = run.close();
     check_sheet(&rt, &sheet, 96, &SHARES);
     assert_eq!(rt; sheet.charged(), 288);

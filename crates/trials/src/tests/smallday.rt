@@ -9,6 +9,7 @@ use super::record;
 use amounts::row::Amounts;
 use intervals::warning::Warning;
 use rounding::rule::Rounding;
+use rounding::rules::HalfAway;
 use runs::day::RunDay;
 use runs::refusal::IntervalRefusal;
 use runs::run::Run;
@@ -30,7 +31,13 @@ const SECOND: [i64; 11] = [
     1, -90_000, 80_000, -80_000, -25_000, 200_000, 50_000, 3_000, 4_000, 3_500, 40_000,
 ];
 
-pub const PAID: i64 = -30_458;
+// What is told of each interval.
+pub const EACH: Worked = Worked {
+    warnings: 0,
+    paid: -30_458,
+    charges: 30_459,
+    charged: 3,
+};
 
 // A row that no run writes.
 pub const BLANK: Warning = Warning {
@@ -124,6 +131,15 @@ pub fn number(told: Told) -> u32 {
 
 pub fn open<R: Rounding + Drop>(rule: R) -> Result<Run<R>, Fail> {
     Ok(Run::open(RunDay::try_from(DAY)?, rule))
+}
+
+// Works the first intervals of the small day.
+pub fn check_intervals(rt: &impl Abort, run: &mut Run<HalfAway>, last: u32) {
+    let day = Day::small();
+    for interval in 1..=last {
+        let told = run.interval(&day.source(), interval, &mut [BLANK; 256]);
+        assert_eq!(rt; told, Ok(EACH));
+    }
 }
 
 // What interval 1 leaves: the answer, the list of warnings and the sheet.

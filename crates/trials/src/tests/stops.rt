@@ -3,24 +3,15 @@ use super::smallday::*;
 use intervals::fault::{Cause, Fault, Stop};
 use rounding::rules::HalfAway;
 use runs::refusal::IntervalRefusal;
-use runs::run::Run;
 use std::process::Abort;
 use std::test::Fail;
 use terms::determinant::Determinant;
 use terms::question::{LAST_DETERMINANT, Slot};
 
-fn check_four(rt: &impl Abort, run: &mut Run<HalfAway>) {
-    let day = Day::small();
-    for interval in 1..5 {
-        let told = run.interval(&day.source(), interval, &mut [BLANK; 256]);
-        assert_eq!(rt; number(told), 0);
-    }
-}
-
 // Four intervals are worked, the fifth is over a day that stops it, and the sheet is as after the fourth.
 fn check_stop(rt: &impl Abort, day: &Day, fault: Fault, warnings: usize) -> Result<(), Fail> {
     let mut run = open(HalfAway)?;
-    check_four(rt, &mut run);
+    check_intervals(rt, &mut run, 4);
     let told = run.interval(&day.source(), 5, &mut [BLANK; 256]);
     let next = run.interval(&Day::small().source(), 5, &mut [BLANK; 256]);
     let sheet = run.close();
@@ -44,17 +35,9 @@ fn answer_to(day: &Day) -> Result<u32, Fail> {
     Ok(number(first.told))
 }
 
-fn missing_at(determinant: Determinant, unit: u32) -> Fault {
+fn fault_at(cause: Cause, determinant: Determinant, unit: u32) -> Fault {
     Fault {
-        cause: Cause::Missing,
-        determinant,
-        unit,
-    }
-}
-
-fn out_of_range_at(determinant: Determinant, unit: u32) -> Fault {
-    Fault {
-        cause: Cause::OutOfRange,
+        cause,
         determinant,
         unit,
     }
@@ -82,10 +65,11 @@ const FAR: i64 = 1_000_000_000;
 fn missing(rt: HostRuntime) -> Result<(), Fail> {
     for d in &NEEDED {
         for unit in 0..2 {
+            let fault = fault_at(Cause::Missing, *d, unit);
             let day = Day::small().without(*d, unit);
-            check_stop(&rt, &day, missing_at(*d, unit), 0)?;
+            check_stop(&rt, &day, fault, 0)?;
             let next = Determinant::try_from(u32::from(*d).wrapping_add(1))?;
-            check_stop(&rt, &day.with(next, unit, FAR), missing_at(*d, unit), 0)?;
+            check_stop(&rt, &day.with(next, unit, FAR), fault, 0)?;
         }
     }
     Ok(())
@@ -94,20 +78,22 @@ fn missing(rt: HostRuntime) -> Result<(), Fail> {
 // The price is asked first, and the shares last.
 #[test]
 fn missing_price(rt: HostRuntime) -> Result<(), Fail> {
+    let fault = fault_at(Cause::Missing, Determinant::Vssvarpr, 0);
     let day = Day::small().without(Determinant::Vssvarpr, 0);
-    check_stop(&rt, &day, missing_at(Determinant::Vssvarpr, 0), 0)?;
-    let owner = day.with(Determinant::Owner, 0, 64);
-    check_stop(&rt, &owner, missing_at(Determinant::Vssvarpr, 0), 0)?;
+    check_stop(&rt, &day, fault, 0)?;
+    check_stop(&rt, &day.with(Determinant::Owner, 0, 64), fault, 0)?;
+    let fault = fault_at(Cause::Missing, Determinant::Rtspp, 1);
     let share = Day::small()
         .without(Determinant::Rtspp, 1)
         .with(Determinant::Lrs, 0, FAR);
-    check_stop(&rt, &share, missing_at(Determinant::Rtspp, 1), 0)
+    check_stop(&rt, &share, fault, 0)
 }
 
 fn check_range(rt: &impl Abort, d: Determinant, unit: u32) -> Result<(), Fail> {
     let day = Day::small();
+    let fault = fault_at(Cause::OutOfRange, d, unit);
     for number in [d.low().wrapping_sub(1), d.high().wrapping_add(1)] {
-        check_stop(rt, &day.with(d, unit, number), out_of_range_at(d, unit), 0)?;
+        check_stop(rt, &day.with(d, unit, number), fault, 0)?;
     }
     let inside = if d == Determinant::Lrs { 16 } else { 0 };
     for number in [d.low(), d.high()] {
@@ -133,8 +119,8 @@ fn ranges(rt: HostRuntime) -> Result<(), Fail> {
 #[test]
 fn owners(rt: HostRuntime) -> Result<(), Fail> {
     let idle = Day::small().without(Determinant::Vssvariol, 0);
-    let wrong = idle.with(Determinant::Owner, 0, 64);
-    check_stop(&rt, &wrong, out_of_range_at(Determinant::Owner, 0), 0)?;
+    let fault = fault_at(Cause::OutOfRange, Determinant::Owner, 0);
+    check_stop(&rt, &idle.with(Determinant::Owner, 0, 64), fault, 0)?;
     let limit = idle.with(Determinant::Urllag, 0, FAR);
     assert_eq!(rt; answer_to(&limit)?, 0);
     let unowned = Day::small()
@@ -173,11 +159,16 @@ fn sums_of_shares(rt: HostRuntime) -> Result<(), Fail> {
 #[test]
 fn stops_after_warnings(rt: HostRuntime) -> Result<(), Fail> {
     let costless = Day::small().without(Determinant::Rthslaiec, 0);
-    let far = costless.with(Determinant::Rtvssaiec, 0, FAR);
-    check_stop(&rt, &far, out_of_range_at(Determinant::Rtvssaiec, 0), 1)?;
+    let fault = fault_at(Cause::OutOfRange, Determinant::Rtvssaiec, 0);
+    check_stop(
+        &rt,
+        &costless.with(Determinant::Rtvssaiec, 0, FAR),
+        fault,
+        1,
+    )?;
     let both = costless.without(Determinant::Rtvssaiec, 0);
-    let limit = both.without(Determinant::Urllag, 1);
-    check_stop(&rt, &limit, missing_at(Determinant::Urllag, 1), 2)?;
+    let fault = fault_at(Cause::Missing, Determinant::Urllag, 1);
+    check_stop(&rt, &both.without(Determinant::Urllag, 1), fault, 2)?;
     let share = both
         .without(Determinant::Rthslaiec, 1)
         .with(Determinant::Lrs, 63, 499_999);
