@@ -35,9 +35,6 @@ module _ (t : Table) (stopped : Bool) (w : Work) (i : ℕ) (ws : List Warning) (
   pub warned_is : length (course t w.day i).rows ≤ 256 → written ws 0 (course t w.day i).rows ≡ warned t stopped w i ws
   warned_is few = written_front ws (course t w.day i).rows (omega arith) ∙ sym (rw goes refl)
 
-  pub stopping_is : (course t w.day i).fault ≡ None → stopped ≡ stopping t stopped w i (length ws)
-  stopping_is none = sym (rw (goes, none) refl)
-
   pub answering_is : (rd : ℤ → ℕ → ℤ) → (course t w.day i).fault ≡ None → fine (worked rd t w.day i) ≡ answering rd t stopped w i (length ws)
   answering_is rd none = sym (rw (goes, none) refl)
 

@@ -133,10 +133,3 @@ module _ {X : Type 0} (says : X → Answer) where
 
   pub decision : (xs : List X) (r : Answer) → r ≡ decide says NoCut xs → Decision says xs r
   decision xs r e = record { decided = rw e (decides xs); only = λ a d. once xs a d ∙ sym e }
-
-  -- one step of a loop over the list, and its end
-  pub decide_more : (xs : List X) (i : ℕ) (d : X) (a : Answer) → i < length xs → decide says a (drop i xs) ≡ decide says (later a (says (get_or xs i d))) (drop (i + 1) xs)
-  decide_more xs i d a h = at_drop_more (decide says a) xs i d h
-
-  pub decide_all : (xs : List X) (i : ℕ) (a : Answer) → length xs ≤ i → decide says a (drop i xs) ≡ a
-  decide_all xs i a h = at_drop_all (decide says a) xs i h

@@ -5,8 +5,5 @@ use Rattle.std.proofs.lemmas.Bool.{cond-true, cond-false}
 use Rattle.terms.specs.declared.determinant.Determinant.{Determinant}
 
 module _ (f : Determinant → Bool) (ks : List Determinant) (i : ℕ) (d : Determinant) (h : i < length ks) where
-  pub first_here : f (get_or ks i d) ≡ true → find f (drop i ks) ≡ Some (get_or ks i d)
-  first_here e = at_drop_more (find f) ks i d h ∙ cond-true _ _ _ e
-
   pub first_more : f (get_or ks i d) ≡ false → find f (drop i ks) ≡ find f (drop (i + 1) ks)
   first_more e = at_drop_more (find f) ks i d h ∙ cond-false _ _ _ e
