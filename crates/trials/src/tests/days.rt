@@ -60,18 +60,14 @@ fn half_to_even(rt: HostRuntime) -> Result<(), Fail> {
     Ok(())
 }
 
-fn day_number(day: u32) -> u32 {
-    RunDay::try_from(day)
-        .err()
-        .map_or(0, |refusal| refusal.number())
-}
-
+// A day, and the number of the answer, 0 where there is such a day.
 const DAYS: [(u32, u32); 4] = [(0, 0), (65_535, 0), (65_536, 7), (u32::MAX, 7)];
 
 #[test]
 fn days(rt: HostRuntime) {
     for (day, answer) in &DAYS {
-        assert_eq!(rt; day_number(*day), *answer);
+        let refusal = RunDay::try_from(*day).err();
+        assert_eq!(rt; refusal.map_or(0, |refusal| refusal.number()), *answer);
     }
 }
 

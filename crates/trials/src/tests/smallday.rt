@@ -48,18 +48,14 @@ pub const BLANK: Warning = Warning {
 };
 
 // A number for every interval of the day.
-pub fn numbered(determinant: u32, unit: u32, number: i64) -> Record {
-    record([determinant, unit, DAY, 0], number)
-}
-
 pub fn all_day(determinant: Determinant, unit: u32, number: i64) -> Record {
-    numbered(determinant.into(), unit, number)
+    record([determinant.into(), unit, DAY, 0], number)
 }
 
-// Numbers of a Resource: each record has that of the next determinant, from 1 on.
-fn write_resource(records: &mut [Record], unit: u32, numbers: &[i64; 11]) {
-    for ((record, number), determinant) in records.iter_mut().zip(numbers).zip(1..12) {
-        *record = numbered(determinant, unit, *number);
+// Numbers of a Resource: each row has that of the next determinant, from 1 on.
+fn write_resource(rows: &mut [Record], unit: u32, numbers: &[i64; 11]) {
+    for ((row, number), determinant) in rows.iter_mut().zip(numbers).zip(1..12) {
+        *row = record([determinant, unit, DAY, 0], *number);
     }
 }
 

@@ -1,4 +1,5 @@
 // The list of warnings.
+use super::record;
 use super::smallday::*;
 use intervals::warning::Warning;
 use rounding::rules::HalfAway;
@@ -120,9 +121,9 @@ const UNPAID: [(u32, i64); 7] = [
 
 fn full_day() -> [Record; 898] {
     let mut day = [all_day(Determinant::Vssvarpr, 0, 265); 898];
-    for (records, unit) in day.chunks_exact_mut(7).zip(0..RESOURCES as u32) {
-        for (record, (determinant, number)) in records.iter_mut().zip(&UNPAID) {
-            *record = numbered(*determinant, unit, *number);
+    for (rows, unit) in day.chunks_exact_mut(7).zip(0..RESOURCES as u32) {
+        for (row, (determinant, number)) in rows.iter_mut().zip(&UNPAID) {
+            *row = record([*determinant, unit, DAY, 0], *number);
         }
     }
     day[897] = all_day(Determinant::Lrs, 63, 1_000_000);
