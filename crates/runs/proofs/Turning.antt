@@ -15,7 +15,7 @@ use Rattle.intervals.specs.Settlements.{SettledBy, stop_of}
 use Rattle.intervals.proofs.Rowed.{written_front}
 use Rattle.runs.specs.declared.refusal.IntervalRefusal.TheVariants.{FewRows}
 use Rattle.runs.specs.declared.work.Work.{Work}
-use Rattle.runs.specs.Turns.{is_due, barred, worked, answering, warned, stopping}
+use Rattle.runs.specs.Turns.{is_due, barred, worked, answering, warned}
 
 pub due_parts : (w : Work) (i : ℕ) → is_due w i ≡ true → (w.intervals < 96) × (i ≡ w.intervals + 1)
 due_parts w i e = let p = and_parts (ltb w.intervals 96) (eqb i (w.intervals + 1)) e in (ltb-true w.intervals 96 p.0, eqb-true i (w.intervals + 1) p.1)

@@ -1,7 +1,7 @@
 -- One step of a walk that looks for the first determinant to pass a test.
-use Rattle.std.proofs.Common.{◌≡◌, ℕ, ◌+◌, ◌<◌, Bool, true, false, List, length, get_or, drop, Some, find, ◌∙◌}
+use Rattle.std.proofs.Common.{◌≡◌, ℕ, ◌+◌, ◌<◌, Bool, false, List, length, get_or, drop, find, ◌∙◌}
 use Rattle.std.proofs.lemmas.List.{at_drop_more}
-use Rattle.std.proofs.lemmas.Bool.{cond-true, cond-false}
+use Rattle.std.proofs.lemmas.Bool.{cond-false}
 use Rattle.terms.specs.declared.determinant.Determinant.{Determinant}
 
 module _ (f : Determinant → Bool) (ks : List Determinant) (i : ℕ) (d : Determinant) (h : i < length ks) where
