@@ -41,7 +41,7 @@ fn digits(field: &[u8]) -> Option<u64>
         let Mark::Digit(d) = Mark::from(*b) else {
             return None;
         };
-        n = n * 10 + d as u64;
+        n = n * 10 + u64::from(d);
     }
     Some(n)
 }

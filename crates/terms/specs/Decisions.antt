@@ -1,4 +1,4 @@
--- How a list of lines or records decides a question. AllByRecursion of them says of a question: nothing (NoCut), that it gives a number for
+-- How a list of lines or records decides a question. Each of them says of a question: nothing (NoCut), that it gives a number for
 -- another interval (Null), or the number that it gives (Figure). Assumes nothing.
 use Rattle.std.specs.Prelude.{◌≡◌, List, fold, ◌∷◌, ◌++◌, ℤ, ◌≢◌}
 use Rattle.std.specs.List.{AllByRecursion}

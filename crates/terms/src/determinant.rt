@@ -1,5 +1,5 @@
 // The determinants: one row for each in one table.
-ghost use Rattle.std.specs.Prelude.{◌≡◌, ◌≤◌, Some};
+ghost use Rattle.std.specs.Prelude.{◌≡◌, ◌≤◌, Some, codes};
 ghost use Rattle.terms.specs.Determinants.{number_of, name_of, decimals_of, low_of, high_of, missing_of, admitted, with_number, named, found};
 
 use std::error::Error;
@@ -254,6 +254,8 @@ impl fmt::Display for Determinant {
 }
 
 impl fmt::Display for NoDeterminant {
+    ghost output = { λ _. Some (codes "no determinant has this number or name") };
+
     fn fmt<W: fmt::Write>(&self, f: &mut fmt::Formatter<W>) -> fmt::Result {
         f.write_str("no determinant has this number or name")
     }
