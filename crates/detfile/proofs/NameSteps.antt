@@ -24,10 +24,10 @@ held_listed d (k ∷ ks) = cc (same_by_number k d, held_listed d ks)
 
 module _ (n i : ℕ) (ks : List Determinant) (bs : List ℕ) (h : i < n) where
   names_step : names_on (n - i) ks bs ≡ next_name ks (named (first_field bs)) (λ ls. names_on (n - (i + 1)) ls (past_field bs))
-  names_step = let e : n - i ≡ suc (n - (i + 1)) = omega arith in ap (λ m. names_on m ks bs) e
+  names_step = search rules
 
   pub names_twice : (d : Determinant) → Some d ≡ named (first_field bs) → held d ks ≡ true → names_on (n - i) ks bs ≡ None
-  names_twice d e t = names_step ∙ ap (λ o. next_name ks o (λ ls. names_on (n - (i + 1)) ls (past_field bs))) (sym e) ∙ cond-true _ _ _ t
+  names_twice d e t = grind arith
 
   pub names_more : (d : Determinant) → Some d ≡ named (first_field bs) → held d ks ≡ false → names_on (n - i) ks bs ≡ names_on (n - (i + 1)) (ks ++ d ∷ []) (past_field bs)
-  names_more d e t = names_step ∙ ap (λ o. next_name ks o (λ ls. names_on (n - (i + 1)) ls (past_field bs))) (sym e) ∙ cond-false _ _ _ t
+  names_more d e t = grind arith

@@ -34,7 +34,7 @@ lined bs = record { rejoined = rejoins bs; endings = endings_on [] bs tt }
 
 -- VALUE LINES
 then_ok : {E X Y : Type 0} (r : Result X E) (f : X → Result Y E) (y : Y) → then r f ≡ Ok y → (x : X) × (r ≡ Ok x) × (f x ≡ Ok y)
-then_ok (Err e) f y h = absurd (let z : ◌≡◌ {A = ℕ} 0 1 = cc in omega arith)
+then_ok (Err e) f y h = grind arith
 then_ok (Ok x) f y h = (x, refl, h)
 
 given_all : (ks : List Determinant) (bs : List ℕ) → values_fault ks bs ≡ Ok tt → Given ks bs
@@ -50,12 +50,10 @@ sound_fields ks l s e =
 
 -- the test of a line's shape
 shape_yes : (ks : List Determinant) (l : List ℕ) → (leb (length l) most_line && eqb (spaces l) (length ks + 2)) ≡ true → Shaped ks l
-shape_yes ks l e =
-    let p = and_parts (leb (length l) most_line) (eqb (spaces l) (length ks + 2)) e in
-    (leb-true (length l) most_line p.0, eqb-true (spaces l) (length ks + 2) p.1)
+shape_yes ks l e = grind arith
 
 shape_no : (ks : List Determinant) (l : List ℕ) → (leb (length l) most_line && eqb (spaces l) (length ks + 2)) ≡ false → Shaped ks l → ⊥
-shape_no ks l e s = true≢false (sym (and_from _ _ (le-leb (length l) most_line s.0) (eq-eqb (spaces l) (length ks + 2) s.1)) ∙ e)
+shape_no ks l e s = grind arith
 
 -- what is said of one line: it is sound, or it is at fault
 abbrev LineSaid : List Determinant → ℕ → List ℕ → Result (Unit {0}) FileRefusal → Type 0

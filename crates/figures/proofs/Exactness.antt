@@ -44,18 +44,15 @@ pointed_size d w f len h =
     ∙ sym (add-mul (w * 10 ^ len) f (10 ^ d))
 
 bind_some : {X Y : Type 0} (o : Option X) (g : X → Option Y) (y : Y) → bind o g ≡ Some y → (x : X) × (o ≡ Some x) × (g x ≡ Some y)
-bind_some None g y e = absurd (let z : ◌≡◌ {A = ℕ} 0 1 = cc in omega arith)
+bind_some None g y e = grind arith
 bind_some (Some x) g y e = (x, refl, e)
 
 -- what counted says, in parts
 counted_parts : (most : ℕ) (bs : List ℕ) (w : ℕ) → counted most bs ≡ Some w → (1 ≤ length bs) × (length bs ≤ most) × (value_on 0 bs ≡ Some w)
-counted_parts most bs w e =
-    let p = counted_by (leb 1 (length bs) && leb (length bs) most) (value_on 0 bs) w e in
-    let q = and_parts (leb 1 (length bs)) _ p.0 in
-    (leb-true 1 (length bs) q.0, leb-true (length bs) most q.1, p.1)
+counted_parts most bs w e = grind arith
 
 counted_from : (most : ℕ) (bs : List ℕ) (w : ℕ) → 1 ≤ length bs → length bs ≤ most → value_on 0 bs ≡ Some w → counted most bs ≡ Some w
-counted_from most bs w a b e = cond-true _ _ _ (and_from _ _ (le-leb 1 (length bs) a) (le-leb (length bs) most b)) ∙ e
+counted_from most bs w a b e = grind arith
 
 -- SOUND: what is read is written
 whole_read : (d : ℕ) (bs : List ℕ) (n : ℕ) → magnitude_of d bs None ≡ Some n → Writes d bs n
@@ -89,7 +86,7 @@ read_writes d bs n e = read_by d bs n (cut 46 bs) refl e
 
 -- COMPLETE: what is written is read
 split_by : (o : Option ℕ) (xs ys : List ℕ) (n v : ℕ) → ((d : ℕ) → value_on (n * 10 + d) (xs ++ ys) ≡ Some v → (w : ℕ) × (value_on (n * 10 + d) xs ≡ Some w) × (value_on w ys ≡ Some v)) → bind o (λ d. value_on (n * 10 + d) (xs ++ ys)) ≡ Some v → (w : ℕ) × (bind o (λ d. value_on (n * 10 + d) xs) ≡ Some w) × (value_on w ys ≡ Some v)
-split_by None xs ys n v h e = absurd (let z : ◌≡◌ {A = ℕ} 0 1 = cc in omega arith)
+split_by None xs ys n v h e = grind arith
 split_by (Some d) xs ys n v h e = h d e
 
 value_split : (xs ys : List ℕ) (n v : ℕ) → value_on n (xs ++ ys) ≡ Some v → (w : ℕ) × (value_on n xs ≡ Some w) × (value_on w ys ≡ Some v)
@@ -106,7 +103,7 @@ value_none (b ∷ bs) k m e = none_by (digit_of (mark_of b)) bs k m (λ d h. val
 
 -- digits that write v after w write, alone, what v is above w
 unshift_by : (o : Option ℕ) (ys : List ℕ) (w v : ℕ) → value_on 0 ys ≡ o → value_on w ys ≡ Some v → (f : ℕ) × (value_on 0 ys ≡ Some f) × (v ≡ w * 10 ^ length ys + f)
-unshift_by None ys w v h e = let z = value_none ys 0 w h in absurd (let y : ◌≡◌ {A = ℕ} 0 1 = cc in omega arith)
+unshift_by None ys w v h e = let z = value_none ys 0 w h in grind arith
 unshift_by (Some f) ys w v h e =
     let same : w + 0 ≡ w = omega arith in
     let z = ap (λ x. value_on x ys) (sym same) ∙ value_shift ys 0 f w h in
@@ -114,7 +111,7 @@ unshift_by (Some f) ys w v h e =
 
 -- no digit is the point
 pointless : (b : ℕ) → eqb b 46 ≡ true → digit_of (mark_of b) ≡ None
-pointless b e = ap (λ x. digit_of (mark_of x)) (eqb-true b 46 e)
+pointless b e = grind arith
 
 uncut_by : (o : Option ℕ) (t : Bool) (front xs : List ℕ) (b k v : ℕ) → digit_of (mark_of b) ≡ o → eqb b 46 ≡ t → ((d : ℕ) → value_on (k * 10 + d) xs ≡ Some v → cut_on 46 (front ++ b ∷ []) xs ≡ None) → bind o (λ d. value_on (k * 10 + d) xs) ≡ Some v → cond t (Some (front, xs)) (cut_on 46 (front ++ b ∷ []) xs) ≡ None
 uncut_by None t front xs b k v p q h e = cc
@@ -163,8 +160,7 @@ first_digit [] k v l e h = omega arith
 first_digit (b ∷ xs) k v l e h =
     let n : digit_of (mark_of b) ≡ None = ap (λ x. digit_of (mark_of x)) h in
     let z : value_on k (b ∷ xs) ≡ None = ap (λ o. bind o (λ d. value_on (k * 10 + d) xs)) n in
-    let y : ◌≡◌ {A = ℕ} 0 1 = cc in
-    omega arith
+    grind arith
 
 first_front : (ws fs : List ℕ) → 1 ≤ length ws → get_or (ws ++ 46 ∷ fs) 0 0 ≡ get_or ws 0 0
 first_front [] fs l = absurd (omega arith)
@@ -177,7 +173,7 @@ unsigned d bs n (pointed ws fs v m a b c l e s) h =
 
 -- where nothing is read, nothing is written
 none_plain : (d : ℕ) (bs : List ℕ) → eqb (get_or bs 0 0) 45 ≡ false → magnitude d bs ≡ None → (m : Bool) (n : ℕ) → Figures d bs m n → ⊥
-none_plain d bs f e m n (plain xs k w) = let z = writes_read d xs k w in let y : ◌≡◌ {A = ℕ} 0 1 = cc in omega arith
+none_plain d bs f e m n (plain xs k w) = let z = writes_read d xs k w in grind arith
 none_plain d bs f e m n (minus xs k w) = true≢false f
 
 none_minus : (d : ℕ) (rest bs : List ℕ) → bs ≡ 45 ∷ rest → magnitude d rest ≡ None → (m : Bool) (n : ℕ) → Figures d bs m n → ⊥
@@ -185,8 +181,7 @@ none_minus d rest bs s e m n (plain xs k w) = unsigned d xs k w (ap (λ (x : Lis
 none_minus d rest bs s e m n (minus xs k w) =
     let q : xs ≡ rest = cc in
     let z = ap (magnitude d) (sym q) ∙ writes_read d xs k w in
-    let y : ◌≡◌ {A = ℕ} 0 1 = cc in
-    omega arith
+    grind arith
 
 bounded_stores : (d : ℕ) (bs : List ℕ) (m : Bool) (o : Option ℕ) → ((n : ℕ) → o ≡ Some n → Figures d bs m n) → (o ≡ None → (k : Bool) (n : ℕ) → Figures d bs k n → ⊥) → Stores d bs (bounded m o)
 bounded_stores d bs m None some none = none refl

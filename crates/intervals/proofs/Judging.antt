@@ -18,8 +18,8 @@ use Rattle.intervals.specs.Askings.{held_as}
 held_number : (x : ℤ) (b : Bool) (o : Option ℤ) → cond b (Taken x) (Stopped OutOfRange) ≡ held_as o → (o ≡ Some x) × (b ≡ true)
 held_number x true None e = ((cc), refl)
 held_number x true (Some z) e = ((cc), refl)
-held_number x false None e = ((cc), absurd (let z : ◌≡◌ {A = ℕ} 0 1 = cc in let b : ⊥ = omega arith in b))
-held_number x false (Some z) e = ((cc), absurd (let z : ◌≡◌ {A = ℕ} 0 1 = cc in let b : ⊥ = omega arith in b))
+held_number x false None e = ((cc), grind arith)
+held_number x false (Some z) e = ((cc), grind arith)
 
 -- ---- one that is missing
 held_missing : (r : Rule) (o : Option ℤ) → wanting r ≡ held_as o → ((r ≡ Zero) × (o ≡ Some (pos 0))) ⊎ ((r ≡ Warning) × (o ≡ None))
@@ -78,8 +78,8 @@ module _ (d : Determinant) (o : Option ℤ) where
   there : {P : Type 0} → missing_of d ≡ Skip → wanting (missing_of d) ≡ held_as o → P
   there s e =
       elim (held_missing (missing_of d) o e) [
-        | inl p ↦ absurd (let h = sym p.0 ∙ s in let z : ◌≡◌ {A = ℕ} 0 1 = cc in let b : ⊥ = omega arith in b)
-        | inr p ↦ absurd (let h = sym p.0 ∙ s in let z : ◌≡◌ {A = ℕ} 0 1 = cc in let b : ⊥ = omega arith in b)
+        | inl p ↦ (let h = sym p.0 ∙ s in grind arith)
+        | inr p ↦ (let h = sym p.0 ∙ s in grind arith)
       ]
 
   pub there_kept : (a : Answer) → missing_of d ≡ Skip → judged d a ≡ held_as o → missing a ≡ false
@@ -95,8 +95,8 @@ wanting_skips Warning e = cc
 wanting_skips Stops e = cc
 
 number_skips : (x : ℤ) (b : Bool) {P : Type 0} → cond b (Taken x) (Stopped OutOfRange) ≡ Skipped → P
-number_skips x true e = absurd (let z : ◌≡◌ {A = ℕ} 0 1 = cc in let b : ⊥ = omega arith in b)
-number_skips x false e = absurd (let z : ◌≡◌ {A = ℕ} 0 1 = cc in let b : ⊥ = omega arith in b)
+number_skips x true e = grind arith
+number_skips x false e = grind arith
 
 pub skips : (d : Determinant) (a : Answer) → judged d a ≡ Skipped → (missing_of d ≡ Skip) × (missing a ≡ true) × (figure a ≡ pos 0)
 skips d NoCut e = (wanting_skips (missing_of d) e, refl, refl)

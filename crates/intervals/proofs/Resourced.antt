@@ -62,9 +62,9 @@ module _ (t : Table) (y i u : ℕ) (ws : List Warning) (n k : ℕ) (lt : k < 11)
       owner_missing p q = record { missing = or_left _ _ p; owner = rw q (omega arith) }
 
       instruction_missing : (j : ℕ) → get_or of_resource j Owner ≡ Vssvariol → Kept t y i u j xs → missing (answer t y i Vssvariol u) ≡ true → Passed t y i u
-      instruction_missing zero v ks p = absurd (let z : ◌≡◌ {A = ℕ} 0 1 = cc in let b : ⊥ = omega arith in b)
+      instruction_missing zero v ks p = grind arith
       instruction_missing (suc j) v ks p =
-          let o = number_kept Owner (get_or xs 0 None) (answer t y i Owner u) (λ w. let z : ◌≡◌ {A = ℕ} 0 1 = cc in omega arith) (ks 0 (omega arith)) in
+          let o = number_kept Owner (get_or xs 0 None) (answer t y i Owner u) (λ w. grind arith) (ks 0 (omega arith)) in
           let h = admitted_sized Owner (at t y i Owner u) o.within in
           record { missing = or_right _ _ p; owner = omega arith }
 
@@ -79,7 +79,7 @@ module _ (t : Table) (y i u : ℕ) (xs : List (Option ℤ)) (kept : Kept t y i u
   pub owner_is : (number_at xs Owner ≡ at t y i Owner u) × (nat_abs (number_at xs Owner) < 64)
   unfolding of_resource
   owner_is =
-      let o = number Owner (omega arith) refl (λ w. let z : ◌≡◌ {A = ℕ} 0 1 = cc in omega arith) in
+      let o = number Owner (omega arith) refl (λ w. grind arith) in
       let h = admitted_sized Owner (at t y i Owner u) o.within in
       let e = ap nat_abs o.value in
       (o.value, omega arith)
@@ -93,16 +93,16 @@ module _ (t : Table) (y i u : ℕ) (xs : List (Option ℤ)) (kept : Kept t y i u
   pub readings_are : (gathered xs ≡ readings_at t y i u) × (ranged (readings_at t y i u) ≡ true)
   unfolding of_resource readings_at ranged
   readings_are =
-      let v = number Vssvariol (omega arith) refl (λ w. let z : ◌≡◌ {A = ℕ} 0 1 = cc in omega arith) in
-      let g = number Urllag (omega arith) refl (λ w. let z : ◌≡◌ {A = ℕ} 0 1 = cc in omega arith) in
-      let l = number Urllead (omega arith) refl (λ w. let z : ◌≡◌ {A = ℕ} 0 1 = cc in omega arith) in
-      let r = number Rtvar (omega arith) refl (λ w. let z : ◌≡◌ {A = ℕ} 0 1 = cc in omega arith) in
-      let h = number Hsl (omega arith) refl (λ w. let z : ◌≡◌ {A = ℕ} 0 1 = cc in omega arith) in
-      let o = number Lsl (omega arith) refl (λ w. let z : ◌≡◌ {A = ℕ} 0 1 = cc in omega arith) in
-      let p = number Rtspp (omega arith) refl (λ w. let z : ◌≡◌ {A = ℕ} 0 1 = cc in omega arith) in
+      let v = number Vssvariol (omega arith) refl (λ w. grind arith) in
+      let g = number Urllag (omega arith) refl (λ w. grind arith) in
+      let l = number Urllead (omega arith) refl (λ w. grind arith) in
+      let r = number Rtvar (omega arith) refl (λ w. grind arith) in
+      let h = number Hsl (omega arith) refl (λ w. grind arith) in
+      let o = number Lsl (omega arith) refl (λ w. grind arith) in
+      let p = number Rtspp (omega arith) refl (λ w. grind arith) in
       let f = costly Rthslaiec (omega arith) refl refl in
       let m = costly Rtvssaiec (omega arith) refl refl in
-      let n = number Rtmg (omega arith) refl (λ w. let z : ◌≡◌ {A = ℕ} 0 1 = cc in omega arith) in (
+      let n = number Rtmg (omega arith) refl (λ w. grind arith) in (
         (let a = v.value in let b = g.value in let c = l.value in let e = r.value in let j = h.value in let k = o.value in let q = p.value in let s = f.0 in let w = m.0 in let x = n.value in cc),
         and_from _ _ (and_from _ _ v.within (and_from _ _ g.within (and_from _ _ l.within r.within)))
             (and_from _ _ h.within (and_from _ _ o.within (and_from _ _ p.within (and_from _ _ f.1 (and_from _ _ m.1 n.within))))),

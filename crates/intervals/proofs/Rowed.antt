@@ -50,14 +50,14 @@ warns_in (d ∷ ds) = warns d + warns_in ds
 
 wanting_warns : (r : Rule) → wanting r ≡ Warned → 1 ≤ by_rule r
 unfolding by_rule
-wanting_warns Skip e = absurd (let z : ◌≡◌ {A = ℕ} 0 1 = cc in let b : ⊥ = omega arith in b)
-wanting_warns Zero e = absurd (let z : ◌≡◌ {A = ℕ} 0 1 = cc in let b : ⊥ = omega arith in b)
+wanting_warns Skip e = grind arith
+wanting_warns Zero e = grind arith
 wanting_warns Warns e = omega arith
-wanting_warns Stop e = absurd (let z : ◌≡◌ {A = ℕ} 0 1 = cc in let b : ⊥ = omega arith in b)
+wanting_warns Stop e = grind arith
 
 number_warns : (x : ℤ) (b : Bool) {P : Type 0} → cond b (Taken x) (Stopped OutOfRange) ≡ Warned → P
-number_warns x true e = absurd (let z : ◌≡◌ {A = ℕ} 0 1 = cc in let b : ⊥ = omega arith in b)
-number_warns x false e = absurd (let z : ◌≡◌ {A = ℕ} 0 1 = cc in let b : ⊥ = omega arith in b)
+number_warns x true e = grind arith
+number_warns x false e = grind arith
 
 judged_warns : (d : Determinant) (a : Answer) → judged d a ≡ Warned → 1 ≤ warns d
 unfolding warns

@@ -7,16 +7,16 @@ use Rattle.terms.specs.Answers.{later}
 use Rattle.terms.specs.Decisions.{decide, Silent, Among, Decided, Decision}
 
 silent_none : (s : Answer) → s ≡ NoCut → Silent s
-silent_none s p z e = let o : ◌≡◌ {A = ℕ} 0 1 = cc in omega arith
+silent_none s p z e = grind arith
 
 silent_null : (s : Answer) → s ≡ Null → Silent s
-silent_null s p z e = let o : ◌≡◌ {A = ℕ} 0 1 = cc in omega arith
+silent_null s p z e = grind arith
 
 apart : {X : Type 0} (z : ℤ) (a : Answer) → a ≡ Figure z → Silent a → X
 apart z a e s = absurd (s z e)
 
 null_cut : {X : Type 0} → Null ≡ NoCut → X
-null_cut e = let o : ◌≡◌ {A = ℕ} 0 1 = cc in absurd (let z : ⊥ = omega arith in z)
+null_cut e = grind arith
 
 module _ {X : Type 0} (says : X → Answer) where
   -- the law with an answer so far

@@ -7,8 +7,7 @@ pub tabled : (k : Determinant) → Tabled k
 tabled k = search rules
 
 pub same_number : (j k : Determinant) → number_of j ≡ number_of k → j ≡ k
-same_number j k e =
-    let p : Some j ≡ Some k = sym (tabled j).apart ∙ ap with_number e ∙ (tabled k).apart in cc
+same_number j k e = search rules
 
 pub same_numbers : (js ks : List Determinant) → map number_of js ≡ map number_of ks → js ≡ ks
 same_numbers [] [] e = cc
