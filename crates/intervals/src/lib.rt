@@ -2,6 +2,7 @@
 #![tactic(auto)]
 
 mod asking;
+mod charges;
 mod charging;
 pub mod fault;
 pub mod interval;
