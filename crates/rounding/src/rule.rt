@@ -28,5 +28,5 @@ pub trait Rounding {
 pub fn in_range(dividend: i64, divisor: u32) -> bool
     ensures { result ≡ within dividend divisor }
 {
-    dividend.unsigned_abs() <= MOST_DIVIDEND && 0 < divisor && divisor <= MOST_DIVISOR
+    dividend.unsigned_abs() <= MOST_DIVIDEND && (1..=MOST_DIVISOR).contains(&divisor)
 }

@@ -1,7 +1,7 @@
 // `settle work FILE DAY [--rule away|even] [--fill]`
 use crate::console::Console;
-use crate::options::Options;
-use crate::words::number_of;
+use crate::options::{OptionFault, Options};
+use crate::words::{NoNumber, number_of};
 use filesource::source::FileSource;
 use intervals::warning::Warning;
 use messages::{stopped, warned};
@@ -12,9 +12,9 @@ use runs::run::Run;
 use runs::working::WARNING_ROWS;
 use sources::fill::ZeroFill;
 use std::fmt::Display;
-use std::io;
 use std::rt::{Clock, Files};
 use std::time::Instant;
+use std::{fmt, io};
 use terms::question::{LAST_DAY, LAST_INTERVAL};
 use terms::source::Source;
 
@@ -24,15 +24,45 @@ const EXAMPLE: &str = "settle work day.txt 7 --rule even";
 const OUT_OF_TURN: &str =
     "the interval is not the one that is due, or the list of warnings is too short";
 
+// What is wrong with the words after FILE.
+#[derive(Clone, Copy)]
+enum WordsFault<'a> {
+    Option(OptionFault<'a>),
+    NoNumber(NoNumber<'a>),
+}
+
+impl<'a> From<OptionFault<'a>> for WordsFault<'a> {
+    fn from(fault: OptionFault<'a>) -> WordsFault<'a> {
+        WordsFault::Option(fault)
+    }
+}
+
+impl<'a> From<NoNumber<'a>> for WordsFault<'a> {
+    fn from(fault: NoNumber<'a>) -> WordsFault<'a> {
+        WordsFault::NoNumber(fault)
+    }
+}
+
+impl fmt::Display for WordsFault<'_> {
+    fn fmt<W: fmt::Write>(&self, f: &mut fmt::Formatter<W>) -> fmt::Result {
+        match self {
+            WordsFault::Option(fault) => write!(f, "{fault}"),
+            WordsFault::NoNumber(fault) => write!(f, "{fault}"),
+        }
+    }
+}
+
+// The day that is asked for, and the options, which are looked at first.
+fn read<'a>(day: &'a str, words: &[&'a str]) -> Result<(u32, Options), WordsFault<'a>> {
+    let options = Options::read(words)?;
+    Ok((number_of("DAY", day, EXAMPLE)?, options))
+}
+
 impl<R: Files + Clock + Print + Eprint + AllocGlobal> Console<'_, R> {
     // A day worked from a file; false where something is refused, the run stops or the command is wrong.
     pub(crate) fn work(&self, path: &str, day: &str, words: &[&str]) -> anyhow::Result<bool> {
-        let options = match Options::read(words) {
-            Ok(options) => options,
-            Err(fault) => return self.refuse(fault),
-        };
-        let number = match number_of("DAY", day, EXAMPLE) {
-            Ok(number) => number,
+        let (number, options) = match read(day, words) {
+            Ok(read) => read,
             Err(fault) => return self.refuse(fault),
         };
         match RunDay::try_from(number) {

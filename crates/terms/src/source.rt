@@ -9,10 +9,10 @@ pub trait Source {
     // The meaning of a source: its answer to every question.
     ghost table: { Self → Table };
 
-    // What every source proves of its table.
-    ghost laws: { SourceLaws table };
-
     // The answer in the table; the source is as it was.
     fn ask(&self, question: Question) -> Answer
         ensures { result ≡ table self.now question.determinant question.unit question.day question.interval };
+
+    // What every source proves of its table.
+    ghost laws: { SourceLaws table };
 }

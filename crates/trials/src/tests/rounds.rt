@@ -74,8 +74,8 @@ fn told<R: Rounding>(rule: &R, dividend: i64, divisor: u32) -> Result<i64, u32> 
 
 // Whether a result times its divisor lies at most half the divisor away from the dividend.
 fn is_near(dividend: i64, divisor: u32, res: i64) -> bool {
-    let off = res.wrapping_mul(divisor as i64).wrapping_sub(dividend);
-    off.unsigned_abs() <= divisor as u64 / 2
+    let off = res.wrapping_mul(i64::from(divisor)).wrapping_sub(dividend);
+    off.unsigned_abs() <= u64::from(divisor) / 2
 }
 
 // A result, and that for the other sign.
@@ -86,37 +86,39 @@ fn check_result<R: Rounding>(rt: &impl Abort, rule: &R, n: i64, d: u32, res: i64
     }
 }
 
-#[test]
-fn results(rt: HostRuntime) {
-    for (n, d, away, even) in &RESULTS {
-        check_result(&rt, &HalfAway, *n, *d, *away);
-        check_result(&rt, &HalfEven, *n, *d, *even);
+fn check_results<A: Rounding, E: Rounding>(rt: &impl Abort, away: &A, even: &E) {
+    for (n, d, by_away, by_even) in &RESULTS {
+        check_result(rt, away, *n, *d, *by_away);
+        check_result(rt, even, *n, *d, *by_even);
+    }
+}
+
+fn check_refused<A: Rounding, E: Rounding>(rt: &impl Abort, away: &A, even: &E) {
+    for (n, d) in &REFUSED {
+        assert_eq!(rt; told(away, *n, *d), Err(6));
+        assert_eq!(rt; told(even, *n, *d), Err(6));
     }
 }
 
 #[test]
+fn results(rt: HostRuntime) {
+    check_results(&rt, &HalfAway, &HalfEven);
+}
+
+#[test]
 fn refused(rt: HostRuntime) {
-    for (n, d) in &REFUSED {
-        assert_eq!(rt; told(&HalfAway, *n, *d), Err(6));
-        assert_eq!(rt; told(&HalfEven, *n, *d), Err(6));
-    }
+    check_refused(&rt, &HalfAway, &HalfEven);
 }
 
 // The rules that are chosen while a program runs give what the two types give.
 #[test]
 fn chosen_results(rt: HostRuntime) {
-    for (n, d, away, even) in &RESULTS {
-        check_result(&rt, &Rule::Away, *n, *d, *away);
-        check_result(&rt, &Rule::Even, *n, *d, *even);
-    }
+    check_results(&rt, &Rule::Away, &Rule::Even);
 }
 
 #[test]
 fn refused_by_chosen(rt: HostRuntime) {
-    for (n, d) in &REFUSED {
-        assert_eq!(rt; told(&Rule::Away, *n, *d), Err(6));
-        assert_eq!(rt; told(&Rule::Even, *n, *d), Err(6));
-    }
+    check_refused(&rt, &Rule::Away, &Rule::Even);
 }
 
 const WORDS: [(&str, Result<Rule, NoRule>); 6] = [

@@ -171,7 +171,7 @@ pub fn check_sheet(rt: &impl Abort, sheet: &Sheet, intervals: u32, shares: &[Sha
     assert_eq!(rt; sheet.intervals(), intervals);
     assert_eq!(rt; sheet.charged(), intervals.wrapping_mul(3));
     for (entity, [reactive, held, load]) in shares {
-        let n = intervals as i64;
+        let n = i64::from(intervals);
         let row = Amounts {
             reactive: reactive.wrapping_mul(n),
             held: held.wrapping_mul(n),
