@@ -1,11 +1,7 @@
 -- A call for an interval that is accepted.
-use Rattle.std.proofs.Common.{◌≡◌, ℕ, ◌+◌, ◌<◌, ◌≤◌, Bool, true, false, cond, eqb, ltb, List, length, ℤ, Some, None, Option, sym, refl, ap, ◌∙◌, arith}
-use Rattle.std.proofs.lemmas.Bool.{and_parts, ltb-true, eqb-true, le-ltb}
+use Rattle.std.proofs.Common.{◌≡◌, ℕ, ◌+◌, ◌<◌, ◌≤◌, Bool, true, false, List, length, ℤ, Some, None, Option, sym, refl, ap, ◌∙◌, arith}
 use Rattle.terms.specs.Told.{fine}
 use Rattle.terms.specs.Sources.{Table}
-use Rattle.amounts.specs.Sums.{sum_to}
-use Rattle.amounts.specs.Workings.{paid, charge}
-use Rattle.amounts.specs.Tables.{working}
 use Rattle.intervals.specs.declared.fault.Fault.{Fault}
 use Rattle.intervals.specs.declared.interval.Worked.{Worked}
 use Rattle.amounts.specs.declared.row.Amounts.{Amounts}
@@ -13,12 +9,11 @@ use Rattle.intervals.specs.declared.warning.Warning.{Warning}
 use Rattle.intervals.specs.Courses.{Course, course, written}
 use Rattle.intervals.specs.Settlements.{SettledBy, stop_of}
 use Rattle.intervals.proofs.Rowed.{written_front}
-use Rattle.runs.specs.declared.refusal.IntervalRefusal.TheVariants.{FewRows}
 use Rattle.runs.specs.declared.work.Work.{Work}
 use Rattle.runs.specs.Turns.{is_due, barred, worked, answering, warned}
 
 pub due_parts : (w : Work) (i : ℕ) → is_due w i ≡ true → (w.intervals < 96) × (i ≡ w.intervals + 1)
-due_parts w i e = let p = and_parts (ltb w.intervals 96) (eqb i (w.intervals + 1)) e in (ltb-true w.intervals 96 p.0, eqb-true i (w.intervals + 1) p.1)
+due_parts w i e = grind arith
 
 -- no stop, no fault
 pub no_fault : (y i : ℕ) (c : Course) → None ≡ stop_of y i c → c.fault ≡ None
@@ -30,18 +25,14 @@ no_fault y i c e = by c.fault c refl e
 
 module _ (t : Table) (stopped : Bool) (w : Work) (i : ℕ) (ws : List Warning) (on : stopped ≡ false) (due : is_due w i ≡ true) (room : 256 ≤ length ws) where
   goes : barred stopped w i (length ws) ≡ None
-  goes = rw (on, due) (ap (λ b. cond b (Some FewRows) None) (le-ltb (length ws) 256 room))
+  goes = grind arith
 
   pub warned_is : length (course t w.day i).rows ≤ 256 → written ws 0 (course t w.day i).rows ≡ warned t stopped w i ws
   warned_is few = written_front ws (course t w.day i).rows (omega arith) ∙ sym (rw goes refl)
 
   pub answering_is : (rd : ℤ → ℕ → ℤ) → (course t w.day i).fault ≡ None → fine (worked rd t w.day i) ≡ answering rd t stopped w i (length ws)
-  answering_is rd none = sym (rw (goes, none) refl)
+  answering_is rd none = grind arith
 
 pub worked_is : (rd : ℤ → ℕ → ℤ) (t : Table) (y i : ℕ) (rows : List Amounts) (w : Worked) → SettledBy rd t y i rows w.paid w.charges w.charged → w.warnings ≡ length (course t y i).rows → w ≡ worked rd t y i
 unfolding worked
-worked_is rd t y i rows w by n =
-    ap (λ x. record { warnings = x; paid = w.paid; charges = w.charges; charged = w.charged }) n
-    ∙ ap (λ x. record { warnings = length (course t y i).rows; paid = x; charges = w.charges; charged = w.charged }) by.paying
-    ∙ ap (λ x. record { warnings = length (course t y i).rows; paid = paid 128 (working t y i rd); charges = x; charged = w.charged }) by.charging
-    ∙ ap (λ x. record { warnings = length (course t y i).rows; paid = paid 128 (working t y i rd); charges = sum_to 64 (charge rd 128 (working t y i rd)); charged = x }) by.counting
+worked_is rd t y i rows w by n = grind arith
