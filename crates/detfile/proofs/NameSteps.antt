@@ -1,14 +1,14 @@
 -- One step of the walks over names.
-use Rattle.std.proofs.Common.{◌≡◌, ℕ, suc, ◌+◌, ◌-◌, ◌<◌, Bool, true, false, eqb, List, [], ◌∷◌, ◌++◌, Some, None, sym, refl, ap, ◌∙◌, arith, rules}
+use Rattle.std.proofs.Common.{◌≡◌, ℕ, ◌+◌, ◌-◌, ◌<◌, Bool, true, false, eqb, List, [], ◌∷◌, ◌++◌, Some, None, sym, refl, ap, arith, rules}
 use denote.Enum.Bare.{sameb, same_true, same_false}
 use Rattle.std.specs.List.{list_any}
 use Rattle.terms.specs.contracts.determinant.Determinant.{the_type}
 use Rattle.terms.proofs.Tabling.{same_number}
-use Rattle.std.proofs.lemmas.Bool.{cond-true, cond-false, eq-eqb, ne_eqb}
+use Rattle.std.proofs.lemmas.Bool.{eq-eqb, ne_eqb}
 use Rattle.terms.specs.declared.determinant.Determinant.{Determinant}
 use Rattle.terms.specs.Determinants.{number_of, named}
 use Rattle.figures.specs.Cuts.{first_field, past_field}
-use Rattle.detfile.specs.Names.{held, next_name, names_on}
+use Rattle.detfile.specs.Names.{held, names_on}
 
 -- two determinants are the same where their numbers are
 same_by_number : (j k : Determinant) → sameb the_type j k ≡ eqb (number_of j) (number_of k)
@@ -23,9 +23,6 @@ held_listed d [] = refl
 held_listed d (k ∷ ks) = cc (same_by_number k d, held_listed d ks)
 
 module _ (n i : ℕ) (ks : List Determinant) (bs : List ℕ) (h : i < n) where
-  names_step : names_on (n - i) ks bs ≡ next_name ks (named (first_field bs)) (λ ls. names_on (n - (i + 1)) ls (past_field bs))
-  names_step = search rules
-
   pub names_twice : (d : Determinant) → Some d ≡ named (first_field bs) → held d ks ≡ true → names_on (n - i) ks bs ≡ None
   names_twice d e t = grind arith
 

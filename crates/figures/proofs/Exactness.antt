@@ -1,7 +1,7 @@
 -- What is read of a figure is the figure that is written, and nothing else is read.
-use Rattle.std.proofs.Common.{◌≡◌, ℕ, suc, ◌+◌, ◌-◌, ◌*◌, ◌/◌, ◌^◌, ◌<◌, ◌≤◌, Bool, true, false, cond, ◌&&◌, eqb, leb, List, [], ◌∷◌, ◌++◌, length, get_or, drop, pos, neg_ℤ, Some, None, Ok, Err, Option, sym, refl, ap, ◌∙◌, subst, append_assoc, append-nil, mul_assoc, mul_comm, add-mul, pow-suc, sub-add_cancel, mul_right_comm, mul-div_cancel, arith, pow-add}
+use Rattle.std.proofs.Common.{◌≡◌, ℕ, suc, ◌+◌, ◌-◌, ◌*◌, ◌/◌, ◌^◌, ◌<◌, ◌≤◌, Bool, true, false, cond, eqb, leb, List, [], ◌∷◌, ◌++◌, length, get_or, drop, pos, neg_ℤ, Some, None, Ok, Err, Option, sym, refl, ap, ◌∙◌, subst, append_assoc, append-nil, mul_assoc, mul_comm, add-mul, pow-suc, sub-add_cancel, mul_right_comm, mul-div_cancel, arith, pow-add}
 use native.Mathlib.Nat.{one-le-pow}
-use Rattle.std.proofs.lemmas.Bool.{and_parts, and_from, leb-true, le-leb, cond-true, cond_both, eqb-true, leb-false, true≢false}
+use Rattle.std.proofs.lemmas.Bool.{leb-true, cond_both, eqb-true, leb-false, true≢false}
 use Rattle.terms.specs.Limits.{most_stored}
 use Rattle.figures.specs.declared.numbers.Fault.TheVariants.{Beyond}
 use Rattle.figures.specs.Marks.{mark_of, digit_of}
@@ -28,11 +28,6 @@ append_by (Some d) xs ys n w h e = h d e
 value_append : (xs ys : List ℕ) (n w : ℕ) → value_on n xs ≡ Some w → value_on n (xs ++ ys) ≡ value_on w ys
 value_append [] ys n w e = let p : n ≡ w = cc in ap (λ x. value_on x ys) p
 value_append (b ∷ xs) ys n w e = append_by (digit_of (mark_of b)) xs ys n w (λ d h. value_append xs ys (n * 10 + d) w h) e
-
--- one to most digits
-counted_by : (t : Bool) (o : Option ℕ) (w : ℕ) → cond t o None ≡ Some w → (t ≡ true) × (o ≡ Some w)
-counted_by true o w e = (refl, e)
-counted_by false o w e = (cc, cc)
 
 -- the size of a figure, by its two parts
 pointed_size : (d w f len : ℕ) → len ≤ d → (w * 10 ^ d + f * 10 ^ (d - len)) * 10 ^ len ≡ (w * 10 ^ len + f) * 10 ^ d
