@@ -141,13 +141,7 @@ impl<S: Source> Inquiry<'_, S> {
                 Judgement::Taken(figure) => Some(figure),
                 Judgement::Warned => None,
                 Judgement::Skipped => return Ok(None),
-                Judgement::Stopped(cause) => {
-                    return Err(Fault {
-                        cause,
-                        determinant: *determinant,
-                        unit,
-                    });
-                }
+                Judgement::Stopped(cause) => return Err(Fault::new(cause, *determinant, unit)),
             };
             figures.put(*determinant, figure);
         }

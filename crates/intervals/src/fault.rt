@@ -1,6 +1,7 @@
 // Why an interval stops.
 ghost use Rattle.std.specs.Prelude.{◌≡◌};
 ghost use Rattle.intervals.specs.Stops.{cause_number, stop_at};
+ghost use Rattle.intervals.specs.Courses.{fault_at};
 
 use terms::determinant::Determinant;
 use terms::question::Slot;
@@ -45,6 +46,17 @@ pub struct Stop {
 }
 
 impl Fault {
+    // The cause, and the question whose answer it lies in.
+    pub fn new(cause: Cause, determinant: Determinant, unit: u32) -> Fault
+        ensures { result ≡ fault_at cause determinant unit }
+    {
+        Fault {
+            cause,
+            determinant,
+            unit,
+        }
+    }
+
     // The stop that a fault in an interval makes.
     pub fn at(self, slot: Slot, warnings: usize) -> Stop
         ensures { result ≡ stop_at slot.day slot.interval warnings self }

@@ -10,4 +10,5 @@ pub mod judge;
 mod notes;
 mod paying;
 mod shares;
+mod tally;
 pub mod warning;

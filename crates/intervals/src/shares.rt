@@ -21,11 +21,7 @@ impl<S: Source> Inquiry<'_, S> {
     {
         match self.judge(determinant, unit) {
             Judgement::Taken(figure) => Ok(figure),
-            Judgement::Stopped(cause) => Err(Fault {
-                cause,
-                determinant,
-                unit,
-            }),
+            Judgement::Stopped(cause) => Err(Fault::new(cause, determinant, unit)),
             Judgement::Skipped | Judgement::Warned => unreachable(),
         }
     }
@@ -56,11 +52,7 @@ impl<S: Source> Inquiry<'_, S> {
             sum += part;
         }
         if sum != WHOLE_LOAD {
-            return Err(Fault {
-                cause: Cause::Shares,
-                determinant: Determinant::Lrs,
-                unit: 0,
-            });
+            return Err(Fault::new(Cause::Shares, Determinant::Lrs, 0));
         }
         Ok(shares)
     }

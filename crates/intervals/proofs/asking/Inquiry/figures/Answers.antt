@@ -44,8 +44,9 @@ returns-in-Stopped-clause-course g c =
     let slot = c.args.self.now.slot in
     let now = c.loop-determinant in
     let said = c.judge_noting.ensures in
-    stops t slot.day slot.interval c.args.unit now.notes.rows.now now.notes.count now.determinant-index c.loop-determinant-test.true _ refl c.judge_noting.result said.judgement _ _ said.count said.rows c.in-Stopped.cause c.in-Stopped.is
-    ∙ now.invariant.course
+    rw c.new.ensures
+    (stops t slot.day slot.interval c.args.unit now.notes.rows.now now.notes.count now.determinant-index c.loop-determinant-test.true _ refl c.judge_noting.result said.judgement _ _ said.count said.rows c.in-Stopped.cause c.in-Stopped.is
+    ∙ now.invariant.course)
 
 pub loop-determinant-preserved : goal.loop-determinant-preserved
 unfolding of_resource

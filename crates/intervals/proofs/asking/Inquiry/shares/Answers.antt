@@ -24,7 +24,7 @@ returns-in_err-part g c =
 pub returns-then-sum-ne-WHOLE_LOAD : goal.returns-then-sum-ne-WHOLE_LOAD
 returns-then-sum-ne-WHOLE_LOAD g c =
     let t : Table = g.S.Source.table c.args.self.now.source.now in
-    shares_off t c.args.self.now.slot.day c.args.self.now.slot.interval c.loop-entity.entity c.loop-entity.share-items c.loop-entity.sum (omega arith) c.if-sum-ne-WHOLE_LOAD.true c.loop-entity.invariant
+    rw c.new.ensures (shares_off t c.args.self.now.slot.day c.args.self.now.slot.interval c.loop-entity.entity c.loop-entity.share-items c.loop-entity.sum (omega arith) c.if-sum-ne-WHOLE_LOAD.true c.loop-entity.invariant)
 
 pub returns : goal.returns
 returns g c =
