@@ -1,3 +1,2 @@
-pub mod Firsts
 pub mod Decides
 pub mod Tabling

@@ -37,6 +37,7 @@ pub enum Missing {
 
 #[derive(Clone, Copy)]
 struct Row {
+    determinant: Determinant,
     name: &'static str,
     decimals: usize,
     low: i64,
@@ -44,9 +45,10 @@ struct Row {
     missing: Missing,
 }
 
-// Row i has the number i + 1.
+// A row stands at its number less one.
 const TABLE: [Row; 13] = [
     Row {
+        determinant: Determinant::Owner,
         name: "OWNER",
         decimals: 0,
         low: 0,
@@ -54,6 +56,7 @@ const TABLE: [Row; 13] = [
         missing: Missing::Skip,
     },
     Row {
+        determinant: Determinant::Vssvariol,
         name: "VSSVARIOL",
         decimals: 3,
         low: -2_000_000,
@@ -61,6 +64,7 @@ const TABLE: [Row; 13] = [
         missing: Missing::Skip,
     },
     Row {
+        determinant: Determinant::Urllag,
         name: "URLLAG",
         decimals: 3,
         low: 0,
@@ -68,6 +72,7 @@ const TABLE: [Row; 13] = [
         missing: Missing::Stop,
     },
     Row {
+        determinant: Determinant::Urllead,
         name: "URLLEAD",
         decimals: 3,
         low: -2_000_000,
@@ -75,6 +80,7 @@ const TABLE: [Row; 13] = [
         missing: Missing::Stop,
     },
     Row {
+        determinant: Determinant::Rtvar,
         name: "RTVAR",
         decimals: 3,
         low: -1_000_000,
@@ -82,6 +88,7 @@ const TABLE: [Row; 13] = [
         missing: Missing::Zero,
     },
     Row {
+        determinant: Determinant::Hsl,
         name: "HSL",
         decimals: 3,
         low: 0,
@@ -89,6 +96,7 @@ const TABLE: [Row; 13] = [
         missing: Missing::Stop,
     },
     Row {
+        determinant: Determinant::Lsl,
         name: "LSL",
         decimals: 3,
         low: 0,
@@ -96,6 +104,7 @@ const TABLE: [Row; 13] = [
         missing: Missing::Stop,
     },
     Row {
+        determinant: Determinant::Rtspp,
         name: "RTSPP",
         decimals: 2,
         low: -1_000_000,
@@ -103,6 +112,7 @@ const TABLE: [Row; 13] = [
         missing: Missing::Stop,
     },
     Row {
+        determinant: Determinant::Rthslaiec,
         name: "RTHSLAIEC",
         decimals: 2,
         low: -1_000_000,
@@ -110,6 +120,7 @@ const TABLE: [Row; 13] = [
         missing: Missing::Warning,
     },
     Row {
+        determinant: Determinant::Rtvssaiec,
         name: "RTVSSAIEC",
         decimals: 2,
         low: -1_000_000,
@@ -117,6 +128,7 @@ const TABLE: [Row; 13] = [
         missing: Missing::Warning,
     },
     Row {
+        determinant: Determinant::Rtmg,
         name: "RTMG",
         decimals: 3,
         low: -1_000_000,
@@ -124,6 +136,7 @@ const TABLE: [Row; 13] = [
         missing: Missing::Zero,
     },
     Row {
+        determinant: Determinant::Lrs,
         name: "LRS",
         decimals: 6,
         low: 0,
@@ -131,29 +144,13 @@ const TABLE: [Row; 13] = [
         missing: Missing::Zero,
     },
     Row {
+        determinant: Determinant::Vssvarpr,
         name: "VSSVARPR",
         decimals: 2,
         low: 0,
         high: 1_000_000,
         missing: Missing::Stop,
     },
-];
-
-// In the order of their numbers.
-const ALL: [Determinant; 13] = [
-    Determinant::Owner,
-    Determinant::Vssvariol,
-    Determinant::Urllag,
-    Determinant::Urllead,
-    Determinant::Rtvar,
-    Determinant::Hsl,
-    Determinant::Lsl,
-    Determinant::Rtspp,
-    Determinant::Rthslaiec,
-    Determinant::Rtvssaiec,
-    Determinant::Rtmg,
-    Determinant::Lrs,
-    Determinant::Vssvarpr,
 ];
 
 impl Determinant {
@@ -220,12 +217,11 @@ impl TryFrom<u32> for Determinant {
     ghost try_from_gives = { λ n r. found r ≡ with_number n };
 
     fn try_from(number: u32) -> Result<Determinant, NoDeterminant> {
-        for d in &ALL {
-            if number == u32::from(*d) {
-                return Ok(*d);
-            }
-        }
-        Err(NoDeterminant)
+        let place = number.checked_sub(1).ok_or(NoDeterminant)?;
+        TABLE
+            .get(place as usize)
+            .map(|row| row.determinant)
+            .ok_or(NoDeterminant)
     }
 }
 
@@ -236,12 +232,11 @@ impl TryFrom<&[u8]> for Determinant {
     ghost try_from_gives = { λ bs r. found r ≡ named bs.now };
 
     fn try_from(name: &[u8]) -> Result<Determinant, NoDeterminant> {
-        for d in &ALL {
-            if name == d.name().as_bytes() {
-                return Ok(*d);
-            }
-        }
-        Err(NoDeterminant)
+        TABLE
+            .iter()
+            .find(|row| name == row.name.as_bytes())
+            .map(|row| row.determinant)
+            .ok_or(NoDeterminant)
     }
 }
 
