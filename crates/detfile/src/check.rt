@@ -10,7 +10,7 @@ ghost use Rattle.detfile.specs.Verdicts.{Lined, Verdict};
 
 use crate::columns::Columns;
 use crate::lines::{Line, Lines};
-use crate::names::columns_of;
+use crate::names::cut_names;
 use crate::refusal::FileRefusal;
 use crate::values::check_line;
 use figures::cutting::cut_at;
@@ -49,8 +49,7 @@ fn judge(bytes: &[u8]) -> Result<u32, FileRefusal>
     if bytes.len() > MOST_BYTES {
         return Err(FileRefusal::TooLong);
     }
-    let (names, values) = cut_line(bytes).ok_or(FileRefusal::Names)?;
-    let columns = columns_of(names).ok_or(FileRefusal::Names)?;
+    let (columns, values) = cut_names(bytes)?;
     check_lines(&columns, values)
 }
 

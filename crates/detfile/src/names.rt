@@ -1,11 +1,14 @@
 // The line of names.
-ghost use Rattle.std.specs.Prelude.{◌≡◌, ◌≤◌, cond, [], Some, None};
+ghost use Rattle.std.specs.Prelude.{◌≡◌, ◌<◌, ◌≤◌, cond, [], length, Some, None, IfOk};
 ghost use Rattle.std.specs.Option.{option_map};
 ghost use Rattle.detfile.specs.Keys.{values_part};
 ghost use Rattle.detfile.specs.Names.{columns_in, headed, names_on, names_of};
+ghost use Rattle.detfile.specs.Files.{parts_in, names_cut};
 
+use crate::check::cut_line;
 use crate::columns::{Columns, MOST_COLUMNS};
 use crate::fields::Fields;
+use crate::refusal::FileRefusal;
 use figures::cutting::{count_spaces, cut_field};
 use terms::determinant::Determinant;
 
@@ -58,4 +61,14 @@ pub fn columns_of(line: &[u8]) -> Option<Columns>
         return None;
     }
     read_names(cut_heading(line)?, spaces - 2)
+}
+
+// The columns that the first line of a file names, and the value lines after it.
+pub fn cut_names(bytes: &[u8]) -> Result<(Columns, &[u8]), FileRefusal>
+    ensures parts { parts_in result ≡ names_cut bytes.now }
+    ensures shorter { IfOk result (λ p. length p.1.now < length bytes.now) }
+{
+    let (names, values) = cut_line(bytes).ok_or(FileRefusal::Names)?;
+    let columns = columns_of(names).ok_or(FileRefusal::Names)?;
+    Ok((columns, values))
 }
