@@ -15,14 +15,17 @@ use terms::determinant::Determinant;
 // The most bytes that a line may have before its line feed.
 pub const MOST_LINE: usize = 255;
 
+// What the first three fields of a names line are.
+pub const HEADINGS: [&str; 3] = ["DAY", "UNIT", "INT"];
+
 // The names of the determinants, in a line that begins with the names of the day, the unit and the interval.
 fn cut_heading(line: &[u8]) -> Option<&[u8]>
     ensures { option_map (λ names. names.now) result ≡ cond (headed line.now) (Some (values_part line.now)) None }
 {
     let fields = Fields::cut(line);
-    let is_heading = fields.day == b"DAY".as_slice()
-        && fields.unit == b"UNIT".as_slice()
-        && fields.interval == b"INT".as_slice();
+    let is_heading = fields.day == HEADINGS[0].as_bytes()
+        && fields.unit == HEADINGS[1].as_bytes()
+        && fields.interval == HEADINGS[2].as_bytes();
     is_heading.then_some(fields.values)
 }
 

@@ -1,11 +1,8 @@
 // What is wrong with a line of names.
 use crate::quotes::{Quoted, is_space};
-use detfile::names::MOST_LINE;
+use detfile::names::{HEADINGS, MOST_LINE};
 use std::fmt;
 use terms::determinant::Determinant;
-
-// What the first fields are called.
-const HEADINGS: [&str; 3] = ["DAY", "UNIT", "INT"];
 
 // Of a file that has no line feed, and so no line of names.
 pub(crate) fn write_no_names<W: fmt::Write>(
