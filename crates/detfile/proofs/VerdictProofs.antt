@@ -87,7 +87,7 @@ verdict_more ks n l ls (Err e) s v =
     let place : n + 1 + length m.before + 2 ≡ n + suc (length m.before) + 2 = omega arith in
     (after l ls m, (s, v.1), subst (λ (p : ℕ). FaultyLine ks p e m.one) place v.2)
 
-verdict_step : (ks : List Determinant) (n : ℕ) (l : List ℕ) (ls : List Line) (r : Result (Unit {0}) FileRefusal) → LineSaid ks (n + 2) l r → VerdictOn ks (n + 1) ls (lines_judged ks (n + 1) ls) → VerdictOn ks n (ended l ∷ ls) (then r (λ _. lines_judged ks (n + 1) ls))
+verdict_step : (ks : List Determinant) (n : ℕ) (l : List ℕ) (ls : List Line) (r : Result (Unit {0}) FileRefusal) → LineSaid ks (n + 2) l r → VerdictOn ks (n + 1) ls (lines_judged ks (n + 1) ls) → VerdictOn ks n (ended l ∷ ls) (then (then {Y = ℕ} r (λ _. Ok (n + 1))) (λ m. lines_judged ks m ls))
 verdict_step ks n l ls (Ok x) s v = verdict_more ks n l ls (lines_judged ks (n + 1) ls) s v
 verdict_step ks n l ls (Err e) s v =
     let place : n + 2 ≡ n + 0 + 2 = omega arith in
