@@ -1,4 +1,5 @@
 pub mod NameSteps
 pub mod LineSteps
+pub mod LineCounts
 pub mod VerdictProofs
 pub mod NamesFew

@@ -1,5 +1,5 @@
 -- The check's verdict is as the law says.
-use Rattle.std.proofs.Common.{◌≡◌, ℕ, suc, ◌+◌, ◌≤◌, true, false, ◌&&◌, eqb, leb, List, [], ◌∷◌, ◌++◌, length, Some, None, Ok, Err, Option, Result, refl, ap, ◌∙◌, subst, inl, inr, arith}
+use Rattle.std.proofs.Common.{◌≡◌, ℕ, suc, ◌+◌, ◌≤◌, true, false, ◌&&◌, eqb, leb, List, [], ◌∷◌, ◌++◌, length, Some, None, Ok, Err, Option, Result, ok_or, refl, ap, ◌∙◌, subst, inl, inr, arith}
 use Rattle.std.specs.List.{AllByRecursion}
 use Rattle.std.proofs.lemmas.Bool.{leb-true, leb-false, eqb-false, cond_both}
 use Rattle.terms.specs.Decisions.{Among}
@@ -7,12 +7,12 @@ use Rattle.terms.specs.declared.determinant.Determinant.{Determinant}
 use Rattle.figures.specs.Cuts.{cut, first_field, past_field, spaces}
 use Rattle.figures.specs.declared.numbers.Fault.{Fault}
 use Rattle.detfile.specs.declared.refusal.FileRefusal.{FileRefusal}
-use Rattle.detfile.specs.declared.refusal.FileRefusal.TheVariants.{TooLong, Shape}
+use Rattle.detfile.specs.declared.refusal.FileRefusal.TheVariants.{TooLong, Names, Shape}
 use Rattle.detfile.specs.Keys.{then, key_of, values_part}
 use Rattle.detfile.specs.Names.{most_line, names_of}
 use Rattle.detfile.specs.Values.{given, values_fault, fields_fault, located, line_judged}
 use Rattle.detfile.specs.Lines.{Line, ended, unended, lines_on, lines, lines_judged}
-use Rattle.detfile.specs.Files.{most_bytes, parts_judged, columns_judged, judged}
+use Rattle.detfile.specs.Files.{most_bytes, names_cut, judged}
 use Rattle.detfile.specs.Verdicts.{Unbroken, Endings, Lined, Given, Shaped, Sound, SoundLine, FaultyLine, LinesVerdict, Verdict, too_long, unnamed, misnamed, valued}
 use Rattle.detfile.proofs.LineSteps.{rejoins}
 
@@ -87,7 +87,7 @@ verdict_more ks n l ls (Err e) s v =
     let place : n + 1 + length m.before + 2 ≡ n + suc (length m.before) + 2 = omega arith in
     (after l ls m, (s, v.1), subst (λ (p : ℕ). FaultyLine ks p e m.one) place v.2)
 
-verdict_step : (ks : List Determinant) (n : ℕ) (l : List ℕ) (ls : List Line) (r : Result (Unit {0}) FileRefusal) → LineSaid ks (n + 2) l r → VerdictOn ks (n + 1) ls (lines_judged ks (n + 1) ls) → VerdictOn ks n (ended l ∷ ls) (then r (λ _. lines_judged ks (n + 1) ls))
+verdict_step : (ks : List Determinant) (n : ℕ) (l : List ℕ) (ls : List Line) (r : Result (Unit {0}) FileRefusal) → LineSaid ks (n + 2) l r → VerdictOn ks (n + 1) ls (lines_judged ks (n + 1) ls) → VerdictOn ks n (ended l ∷ ls) (then (then {Y = ℕ} r (λ _. Ok (n + 1))) (λ m. lines_judged ks m ls))
 verdict_step ks n l ls (Ok x) s v = verdict_more ks n l ls (lines_judged ks (n + 1) ls) s v
 verdict_step ks n l ls (Err e) s v =
     let place : n + 2 ≡ n + 0 + 2 = omega arith in
@@ -109,15 +109,25 @@ from_none ks ls (Err e) v =
     (m, v.1, subst (λ (p : ℕ). FaultyLine ks p e m.one) place v.2)
 
 -- THE FILE
-columns_verdict : (bs names values : List ℕ) (o : Option (List Determinant)) → length bs ≤ most_bytes → Some (names, values) ≡ cut 10 bs → names_of names ≡ o → Verdict bs (columns_judged values o)
+-- what is judged of the names line's columns, and before that of the first line
+abbrev by_columns : List ℕ → Option (List Determinant) → Result (List Determinant × List ℕ) FileRefusal
+by_columns values o = then (ok_or o Names) (λ ks. Ok (ks, values))
+
+abbrev by_parts : Option (List ℕ × List ℕ) → Result (List Determinant × List ℕ) FileRefusal
+by_parts o = then (ok_or o Names) (λ p. by_columns p.1 (names_of p.0))
+
+abbrev after_names : Result (List Determinant × List ℕ) FileRefusal → Result ℕ FileRefusal
+after_names r = then r (λ p. lines_judged p.0 0 (lines p.1))
+
+columns_verdict : (bs names values : List ℕ) (o : Option (List Determinant)) → length bs ≤ most_bytes → Some (names, values) ≡ cut 10 bs → names_of names ≡ o → Verdict bs (after_names (by_columns values o))
 columns_verdict bs names values None h c e = misnamed names values h c e
 columns_verdict bs names values (Some ks) h c e = valued names values ks _ h c e (from_none ks (lines values) _ (verdict_on ks 0 (lines values)))
 
-parts_verdict : (bs : List ℕ) (o : Option (List ℕ × List ℕ)) → length bs ≤ most_bytes → o ≡ cut 10 bs → Verdict bs (parts_judged o)
+parts_verdict : (bs : List ℕ) (o : Option (List ℕ × List ℕ)) → length bs ≤ most_bytes → o ≡ cut 10 bs → Verdict bs (after_names (by_parts o))
 parts_verdict bs None h c = unnamed h c
 parts_verdict bs (Some p) h c = columns_verdict bs p.0 p.1 (names_of p.0) h c refl
 
 pub verdict : (bs : List ℕ) → Verdict bs (judged bs)
 verdict bs =
-    cond_both (leb (length bs) most_bytes) (parts_judged (cut 10 bs)) (Err TooLong) (Verdict bs)
+    cond_both (leb (length bs) most_bytes) (after_names (names_cut bs)) (Err TooLong) (Verdict bs)
     (λ t. parts_verdict bs (cut 10 bs) (leb-true (length bs) most_bytes t) refl) (λ f. too_long (leb-false (length bs) most_bytes f))

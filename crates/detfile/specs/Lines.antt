@@ -24,9 +24,12 @@ abbrev pub written : Line → List ℕ
 written (ended l) = l ++ 10 ∷ []
 written (unended l) = l
 
--- how many value lines there are after the n before, or the refusal of the first that is at fault; value line n is line n + 1 of the
--- file
+-- how many value lines there are with this one after the n before, or the refusal of this one; value line n is line n + 1 of the file
+abbrev pub line_counted : List Determinant → ℕ → Line → Result ℕ FileRefusal
+line_counted ks n (ended l) = then (line_judged ks (n + 2) l) (λ _. Ok (n + 1))
+line_counted ks n (unended l) = Err (Shape (n + 2))
+
+-- how many value lines there are with these after the n before, or the refusal of the first that is at fault
 abbrev pub lines_judged : List Determinant → ℕ → List Line → Result ℕ FileRefusal
 lines_judged ks n [] = Ok n
-lines_judged ks n (ended l ∷ ls) = then (line_judged ks (n + 2) l) (λ _. lines_judged ks (n + 1) ls)
-lines_judged ks n (unended l ∷ ls) = Err (Shape (n + 2))
+lines_judged ks n (l ∷ ls) = then (line_counted ks n l) (λ m. lines_judged ks m ls)

@@ -3,14 +3,15 @@ ghost use Rattle.std.specs.Prelude.{◌≡◌, ℕ, ◌<◌, ◌≤◌, List, le
 ghost use Rattle.std.specs.Option.{option_map};
 ghost use Rattle.figures.specs.Cuts.{cut};
 ghost use Rattle.detfile.specs.Refusals.{told};
-ghost use Rattle.detfile.specs.Lines.{lines, lines_judged};
+ghost use Rattle.detfile.specs.Lines.{lines, line_counted, lines_judged};
+ghost use Rattle.detfile.specs.Walks.{file_line};
 ghost use Rattle.detfile.specs.Names.{columns_in};
 ghost use Rattle.detfile.specs.Files.{judged, checked};
 ghost use Rattle.detfile.specs.Verdicts.{Lined, Verdict};
 
 use crate::columns::Columns;
 use crate::lines::{Line, Lines};
-use crate::names::columns_of;
+use crate::names::cut_names;
 use crate::refusal::FileRefusal;
 use crate::values::check_line;
 use figures::cutting::cut_at;
@@ -26,20 +27,23 @@ pub fn cut_line(rest: &[u8]) -> Option<(&[u8], &[u8])>
     cut_at(rest, b'\n')
 }
 
+// Checks a value line that has `count` others before it, and counts it.
+fn count_line(columns: &Columns, count: u32, line: Line<'_>) -> Result<u32, FileRefusal>
+    requires { count < 16777216 }
+    ensures { result ≡ line_counted (columns_in columns.now) count (file_line line.entry) }
+{
+    match line {
+        Line::Ended(bytes) => check_line(columns, bytes, count + 2).map(|()| count + 1),
+        Line::Unended(_) => Err(FileRefusal::Shape(count + 2)),
+    }
+}
+
 // Checks the value lines, and counts them.
 fn check_lines(columns: &Columns, values: &[u8]) -> Result<u32, FileRefusal>
     requires { length values.now ≤ 16777216 }
     ensures { result ≡ lines_judged (columns_in columns.now) 0 (lines values.now) }
 {
-    let mut count: u32 = 0;
-    for line in Lines::new(values) {
-        match line {
-            Line::Ended(bytes) => check_line(columns, bytes, count + 2)?,
-            Line::Unended(_) => return Err(FileRefusal::Shape(count + 2)),
-        }
-        count += 1;
-    }
-    Ok(count)
+    Lines::new(values).try_fold(0, |count, line| count_line(columns, count, line))
 }
 
 // The length, then the names line, then the value lines.
@@ -49,8 +53,7 @@ fn judge(bytes: &[u8]) -> Result<u32, FileRefusal>
     if bytes.len() > MOST_BYTES {
         return Err(FileRefusal::TooLong);
     }
-    let (names, values) = cut_line(bytes).ok_or(FileRefusal::Names)?;
-    let columns = columns_of(names).ok_or(FileRefusal::Names)?;
+    let (columns, values) = cut_names(bytes)?;
     check_lines(&columns, values)
 }
 

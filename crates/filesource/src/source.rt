@@ -6,9 +6,9 @@ ghost use Rattle.detfile.specs.Names.{columns_in};
 ghost use Rattle.filesource.specs.Parts.{columns, values};
 ghost use Rattle.filesource.specs.Contents.{counted};
 
-use detfile::check::{check_file, cut_line};
+use detfile::check::check_file;
 use detfile::columns::Columns;
-use detfile::names::columns_of;
+use detfile::names::cut_names;
 use detfile::refusal::FileRefusal;
 
 // What the check finds in an accepted file: how many value lines it has, its columns, and the value lines.
@@ -36,8 +36,7 @@ fn content_of(bytes: &[u8]) -> Result<Content<'_>, FileRefusal>
     ensures valued { ForOk result (λ c. c.values.now ≡ values bytes.now) }
 {
     let count = check_file(bytes)?;
-    let (names, values) = cut_line(bytes).ok_or(FileRefusal::Names)?;
-    let columns = columns_of(names).ok_or(FileRefusal::Names)?;
+    let (columns, values) = cut_names(bytes)?;
     Ok(Content {
         count,
         columns,

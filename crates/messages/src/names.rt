@@ -1,11 +1,8 @@
 // What is wrong with a line of names.
 use crate::quotes::{Quoted, is_space};
-use detfile::names::MOST_LINE;
+use detfile::names::{HEADINGS, MOST_LINE};
 use std::fmt;
 use terms::determinant::Determinant;
-
-// What the first fields are called.
-const HEADINGS: [&str; 3] = ["DAY", "UNIT", "INT"];
 
 // Of a file that has no line feed, and so no line of names.
 pub(crate) fn write_no_names<W: fmt::Write>(
@@ -34,12 +31,8 @@ pub(crate) fn write_names_fault<W: fmt::Write>(
     for (i, heading) in HEADINGS.iter().enumerate() {
         let field = fields.next().unwrap_or(b"");
         if field != heading.as_bytes() {
-            let at = i + 1;
-            let found = Quoted(field);
-            return write!(
-                f,
-                "field {at} of the names line is {found}; expected {heading}"
-            );
+            write_found(f, i + 1, field)?;
+            return write!(f, "; expected {heading}");
         }
     }
     write_column_fault(f, names)
@@ -48,20 +41,20 @@ pub(crate) fn write_names_fault<W: fmt::Write>(
 // The first name that no determinant has, or that stands for the second time.
 fn write_column_fault<W: fmt::Write>(f: &mut fmt::Formatter<W>, names: &[u8]) -> fmt::Result {
     for (i, name) in names.split(is_space).enumerate().skip(HEADINGS.len()) {
-        let at = i + 1;
-        let found = Quoted(name);
         if Determinant::try_from(name).is_err() {
-            return write!(
-                f,
-                "field {at} of the names line is {found}, which is no determinant's name"
-            );
+            write_found(f, i + 1, name)?;
+            return f.write_str(", which is no determinant's name");
         }
         if names.split(is_space).take(i).any(|before| before == name) {
-            return write!(
-                f,
-                "field {at} of the names line is {found}, which stands there for the second time"
-            );
+            write_found(f, i + 1, name)?;
+            return f.write_str(", which stands there for the second time");
         }
     }
     f.write_str("the names line has no determinant after DAY UNIT INT")
+}
+
+// A field of the names line, by its number, and what stands there.
+fn write_found<W: fmt::Write>(f: &mut fmt::Formatter<W>, at: usize, field: &[u8]) -> fmt::Result {
+    let found = Quoted(field);
+    write!(f, "field {at} of the names line is {found}")
 }

@@ -5,7 +5,7 @@ use crate::values::{write_field_fault, write_shape_fault};
 use detfile::check::{MOST_BYTES, cut_line};
 use detfile::columns::Columns;
 use detfile::lines::{Line, Lines};
-use detfile::names::columns_of;
+use detfile::names::cut_names;
 use detfile::refusal::FileRefusal;
 use std::fmt;
 
@@ -46,8 +46,9 @@ impl<'a> Sentence<'a> {
     }
 
     fn columns(&self) -> Columns {
-        cut_line(self.bytes)
-            .and_then(|(names, _)| columns_of(names))
-            .unwrap_or(Columns::none())
+        match cut_names(self.bytes) {
+            Ok((columns, _)) => columns,
+            Err(_) => Columns::none(),
+        }
     }
 }

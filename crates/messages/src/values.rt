@@ -2,7 +2,7 @@
 use crate::quotes::{Quoted, is_space};
 use detfile::fields::Fields;
 use detfile::key::{Interval, ranged_number};
-use detfile::names::MOST_LINE;
+use detfile::names::{HEADINGS, MOST_LINE};
 use detfile::values::given_value;
 use figures::cutting::count_spaces;
 use figures::numbers::Fault;
@@ -44,26 +44,31 @@ pub(crate) fn write_field_fault<W: fmt::Write>(
         values,
     } = Fields::cut(line);
     if ranged_number(day, 0, LAST_DAY).is_err() {
-        let found = Quoted(day);
-        write!(
-            f,
-            "field 1, DAY, is {found}; expected one to five digits, from 0 to {LAST_DAY}"
-        )
+        write_found(f, 1, HEADINGS[0], day)?;
+        write!(f, "expected one to five digits, from 0 to {LAST_DAY}")
     } else if ranged_number(unit, 0, LAST_UNIT).is_err() {
-        let found = Quoted(unit);
-        write!(
-            f,
-            "field 2, UNIT, is {found}; expected one to five digits, from 0 to {LAST_UNIT}"
-        )
+        write_found(f, 2, HEADINGS[1], unit)?;
+        write!(f, "expected one to five digits, from 0 to {LAST_UNIT}")
     } else if Interval::try_from(Token::from(interval)).is_err() {
-        let found = Quoted(interval);
+        write_found(f, 3, HEADINGS[2], interval)?;
         write!(
             f,
-            "field 3, INT, is {found}; expected * or one to five digits, from 1 to {LAST_INTERVAL}"
+            "expected * or one to five digits, from 1 to {LAST_INTERVAL}"
         )
     } else {
         write_value_fault(f, columns, values)
     }
+}
+
+// A field of a value line, by its number and what it is called, and what stands there.
+fn write_found<W: fmt::Write, N: fmt::Display + Copy>(
+    f: &mut fmt::Formatter<W>,
+    at: usize,
+    name: N,
+    field: &[u8],
+) -> fmt::Result {
+    let found = Quoted(field);
+    write!(f, "field {at}, {name}, is {found}; ")
 }
 
 fn write_value_fault<W: fmt::Write>(
@@ -74,9 +79,7 @@ fn write_value_fault<W: fmt::Write>(
     let fields = values.split(is_space);
     for (i, (determinant, field)) in columns.iter().zip(fields).enumerate() {
         if let Err(fault) = given_value(Token::from(field), *determinant) {
-            let at = i + 4;
-            let found = Quoted(field);
-            write!(f, "field {at}, {determinant}, is {found}; ")?;
+            write_found(f, i + 4, *determinant, field)?;
             return write_expected(f, fault, determinant.decimals());
         }
     }
