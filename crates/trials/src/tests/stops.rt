@@ -35,14 +35,6 @@ fn answer_to(day: &Day) -> Result<u32, Fail> {
     Ok(number(first.told))
 }
 
-fn fault_at(cause: Cause, determinant: Determinant, unit: u32) -> Fault {
-    Fault {
-        cause,
-        determinant,
-        unit,
-    }
-}
-
 const SHARES_NOT_WHOLE: Fault = Fault {
     cause: Cause::Shares,
     determinant: Determinant::Lrs,
@@ -65,7 +57,7 @@ const FAR: i64 = 1_000_000_000;
 fn missing(rt: HostRuntime) -> Result<(), Fail> {
     for d in &NEEDED {
         for unit in 0..2 {
-            let fault = fault_at(Cause::Missing, *d, unit);
+            let fault = Fault::new(Cause::Missing, *d, unit);
             let day = Day::small().without(*d, unit);
             check_stop(&rt, &day, fault, 0)?;
             let next = Determinant::try_from(u32::from(*d).wrapping_add(1))?;
@@ -78,11 +70,11 @@ fn missing(rt: HostRuntime) -> Result<(), Fail> {
 // The price is asked first, and the shares last.
 #[test]
 fn missing_price(rt: HostRuntime) -> Result<(), Fail> {
-    let fault = fault_at(Cause::Missing, Determinant::Vssvarpr, 0);
+    let fault = Fault::new(Cause::Missing, Determinant::Vssvarpr, 0);
     let day = Day::small().without(Determinant::Vssvarpr, 0);
     check_stop(&rt, &day, fault, 0)?;
     check_stop(&rt, &day.with(Determinant::Owner, 0, 64), fault, 0)?;
-    let fault = fault_at(Cause::Missing, Determinant::Rtspp, 1);
+    let fault = Fault::new(Cause::Missing, Determinant::Rtspp, 1);
     let share = Day::small()
         .without(Determinant::Rtspp, 1)
         .with(Determinant::Lrs, 0, FAR);
@@ -91,7 +83,7 @@ fn missing_price(rt: HostRuntime) -> Result<(), Fail> {
 
 fn check_range(rt: &impl Abort, d: Determinant, unit: u32) -> Result<(), Fail> {
     let day = Day::small();
-    let fault = fault_at(Cause::OutOfRange, d, unit);
+    let fault = Fault::new(Cause::OutOfRange, d, unit);
     for number in [d.low().wrapping_sub(1), d.high().wrapping_add(1)] {
         check_stop(rt, &day.with(d, unit, number), fault, 0)?;
     }
@@ -119,7 +111,7 @@ fn ranges(rt: HostRuntime) -> Result<(), Fail> {
 #[test]
 fn owners(rt: HostRuntime) -> Result<(), Fail> {
     let idle = Day::small().without(Determinant::Vssvariol, 0);
-    let fault = fault_at(Cause::OutOfRange, Determinant::Owner, 0);
+    let fault = Fault::new(Cause::OutOfRange, Determinant::Owner, 0);
     check_stop(&rt, &idle.with(Determinant::Owner, 0, 64), fault, 0)?;
     let limit = idle.with(Determinant::Urllag, 0, FAR);
     assert_eq!(rt; answer_to(&limit)?, 0);
@@ -159,7 +151,7 @@ fn sums_of_shares(rt: HostRuntime) -> Result<(), Fail> {
 #[test]
 fn stops_after_warnings(rt: HostRuntime) -> Result<(), Fail> {
     let costless = Day::small().without(Determinant::Rthslaiec, 0);
-    let fault = fault_at(Cause::OutOfRange, Determinant::Rtvssaiec, 0);
+    let fault = Fault::new(Cause::OutOfRange, Determinant::Rtvssaiec, 0);
     check_stop(
         &rt,
         &costless.with(Determinant::Rtvssaiec, 0, FAR),
@@ -167,7 +159,7 @@ fn stops_after_warnings(rt: HostRuntime) -> Result<(), Fail> {
         1,
     )?;
     let both = costless.without(Determinant::Rtvssaiec, 0);
-    let fault = fault_at(Cause::Missing, Determinant::Urllag, 1);
+    let fault = Fault::new(Cause::Missing, Determinant::Urllag, 1);
     check_stop(&rt, &both.without(Determinant::Urllag, 1), fault, 2)?;
     let share = both
         .without(Determinant::Rthslaiec, 1)
