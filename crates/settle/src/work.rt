@@ -111,38 +111,22 @@ impl<R: Files + Clock + Print + Eprint + AllocGlobal> Console<'_, R> {
         let start = Instant::now(self.rt)?;
         let mut rows = vec![in self.rt.alloc(); Warning::default(); WARNING_ROWS]?;
         for interval in 1..=LAST_INTERVAL {
-            if !self.work_interval(source, run, interval, rows.as_mut_slice())? {
-                return Ok(false);
+            match run.interval(source, interval, rows.as_mut_slice()) {
+                Ok(worked) => self.say_warnings(rows.as_slice(), worked.warnings)?,
+                Err(refusal @ IntervalRefusal::Halted(stop)) => {
+                    self.say_warnings(rows.as_slice(), stop.warnings)?;
+                    let why = stopped::Sentence { source, stop };
+                    self.say_stopped(interval, refusal, why)?;
+                    return Ok(false);
+                }
+                Err(refusal) => {
+                    self.say_stopped(interval, refusal, OUT_OF_TURN)?;
+                    return Ok(false);
+                }
             }
             self.tell_hour(&start, interval)?;
         }
         Ok(true)
-    }
-
-    // One interval; false where the run stops there.
-    fn work_interval<S: Source>(
-        &self,
-        source: &S,
-        run: &mut Run<Rule>,
-        interval: u32,
-        rows: &mut [Warning],
-    ) -> io::Result<bool> {
-        match run.interval(source, interval, rows) {
-            Ok(worked) => {
-                self.say_warnings(rows, worked.warnings)?;
-                Ok(true)
-            }
-            Err(refusal @ IntervalRefusal::Halted(stop)) => {
-                self.say_warnings(rows, stop.warnings)?;
-                let why = stopped::Sentence { source, stop };
-                self.say_stopped(interval, refusal, why)?;
-                Ok(false)
-            }
-            Err(refusal) => {
-                self.say_stopped(interval, refusal, OUT_OF_TURN)?;
-                Ok(false)
-            }
-        }
     }
 
     fn say_stopped(

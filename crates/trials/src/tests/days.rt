@@ -85,36 +85,36 @@ fn paid_of(day: &Day) -> Result<Option<i64>, Fail> {
 
 // A determinant, a unit, another number, and what is then paid: nothing instructed; at the limit; nothing delivered; a price below
 // zero; output above the high limit, 2,800 * 340,000 - 3,000 * 300,000 = 52,000,000; an instruction the other way; the price's ends.
-const OTHER_NUMBERS: [(u32, u32, i64, i64); 8] = [
-    (2, 0, 0, -663),
-    (2, 0, 100_000, -29_663),
-    (5, 1, 0, -29_795),
-    (8, 0, -5_000, -1_458),
-    (11, 0, 110_000, -14_458),
-    (2, 1, 90_000, -29_795),
-    (13, 0, 0, -29_000),
-    (13, 0, 1_000_000, -5_529_000),
+const OTHER_NUMBERS: [(Determinant, u32, i64, i64); 8] = [
+    (Determinant::Vssvariol, 0, 0, -663),
+    (Determinant::Vssvariol, 0, 100_000, -29_663),
+    (Determinant::Rtvar, 1, 0, -29_795),
+    (Determinant::Rtspp, 0, -5_000, -1_458),
+    (Determinant::Rtmg, 0, 110_000, -14_458),
+    (Determinant::Vssvariol, 1, 90_000, -29_795),
+    (Determinant::Vssvarpr, 0, 0, -29_000),
+    (Determinant::Vssvarpr, 0, 1_000_000, -5_529_000),
 ];
 
 // The same of a missing one. Without RTMG, 5,000 * 400,000 less 3,000 * 300,000 + 2,800 * 100,000 is 820,000,000.
-const MISSING: [(u32, u32, i64); 7] = [
-    (1, 0, -663),
-    (2, 0, -663),
-    (5, 0, -29_663),
-    (9, 0, -1_458),
-    (10, 0, -1_458),
-    (11, 0, -206_458),
-    (9, 1, -30_458),
+const MISSING: [(Determinant, u32, i64); 7] = [
+    (Determinant::Owner, 0, -663),
+    (Determinant::Vssvariol, 0, -663),
+    (Determinant::Rtvar, 0, -29_663),
+    (Determinant::Rthslaiec, 0, -1_458),
+    (Determinant::Rtvssaiec, 0, -1_458),
+    (Determinant::Rtmg, 0, -206_458),
+    (Determinant::Rthslaiec, 1, -30_458),
 ];
 
 #[test]
 fn payments(rt: HostRuntime) -> Result<(), Fail> {
     for (d, unit, number, paid) in &OTHER_NUMBERS {
-        let day = Day::small().with(Determinant::try_from(*d)?, *unit, *number);
+        let day = Day::small().with(*d, *unit, *number);
         assert_eq!(rt; paid_of(&day)?, Some(*paid), "{d} of {unit}: {number}");
     }
     for (d, unit, paid) in &MISSING {
-        let day = Day::small().without(Determinant::try_from(*d)?, *unit);
+        let day = Day::small().without(*d, *unit);
         assert_eq!(rt; paid_of(&day)?, Some(*paid), "{d} of {unit} missing");
     }
     Ok(())

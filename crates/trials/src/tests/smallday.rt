@@ -22,13 +22,33 @@ use terms::determinant::Determinant;
 
 pub const DAY: u32 = 9;
 
-// The determinants 1 to 11 of the Resources.
-const FIRST: [i64; 11] = [
-    0, 120_000, 100_000, -100_000, 28_000, 400_000, 100_000, 5_000, 3_000, 2_800, 80_000,
+// The numbers of the Resources.
+const FIRST: [(Determinant, i64); 11] = [
+    (Determinant::Owner, 0),
+    (Determinant::Vssvariol, 120_000),
+    (Determinant::Urllag, 100_000),
+    (Determinant::Urllead, -100_000),
+    (Determinant::Rtvar, 28_000),
+    (Determinant::Hsl, 400_000),
+    (Determinant::Lsl, 100_000),
+    (Determinant::Rtspp, 5_000),
+    (Determinant::Rthslaiec, 3_000),
+    (Determinant::Rtvssaiec, 2_800),
+    (Determinant::Rtmg, 80_000),
 ];
 
-const SECOND: [i64; 11] = [
-    1, -90_000, 80_000, -80_000, -25_000, 200_000, 50_000, 3_000, 4_000, 3_500, 40_000,
+const SECOND: [(Determinant, i64); 11] = [
+    (Determinant::Owner, 1),
+    (Determinant::Vssvariol, -90_000),
+    (Determinant::Urllag, 80_000),
+    (Determinant::Urllead, -80_000),
+    (Determinant::Rtvar, -25_000),
+    (Determinant::Hsl, 200_000),
+    (Determinant::Lsl, 50_000),
+    (Determinant::Rtspp, 3_000),
+    (Determinant::Rthslaiec, 4_000),
+    (Determinant::Rtvssaiec, 3_500),
+    (Determinant::Rtmg, 40_000),
 ];
 
 // What is told of each interval.
@@ -52,10 +72,10 @@ pub fn all_day(determinant: Determinant, unit: u32, number: i64) -> Record {
     record([determinant.into(), unit, DAY, 0], number)
 }
 
-// Numbers of a Resource: each row has that of the next determinant, from 1 on.
-fn write_resource(rows: &mut [Record], unit: u32, numbers: &[i64; 11]) {
-    for ((row, number), determinant) in rows.iter_mut().zip(numbers).zip(1..12) {
-        *row = record([determinant, unit, DAY, 0], *number);
+// Numbers of a Resource, a row for each.
+pub fn write_resource(rows: &mut [Record], unit: u32, numbers: &[(Determinant, i64)]) {
+    for (row, (determinant, number)) in rows.iter_mut().zip(numbers) {
+        *row = all_day(*determinant, unit, *number);
     }
 }
 

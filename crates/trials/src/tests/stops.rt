@@ -41,12 +41,13 @@ const SHARES_NOT_WHOLE: Fault = Fault {
     unit: 0,
 };
 
-const NEEDED: [Determinant; 5] = [
-    Determinant::Urllag,
-    Determinant::Urllead,
-    Determinant::Hsl,
-    Determinant::Lsl,
-    Determinant::Rtspp,
+// A determinant that no run does without, and the one after it.
+const NEEDED: [(Determinant, Determinant); 5] = [
+    (Determinant::Urllag, Determinant::Urllead),
+    (Determinant::Urllead, Determinant::Rtvar),
+    (Determinant::Hsl, Determinant::Lsl),
+    (Determinant::Lsl, Determinant::Rtspp),
+    (Determinant::Rtspp, Determinant::Rthslaiec),
 ];
 
 // A number that no determinant takes.
@@ -55,13 +56,12 @@ const FAR: i64 = 1_000_000_000;
 // Alone, and with the determinant after it out of range.
 #[test]
 fn missing(rt: HostRuntime) -> Result<(), Fail> {
-    for d in &NEEDED {
+    for (d, next) in &NEEDED {
         for unit in 0..2 {
             let fault = Fault::new(Cause::Missing, *d, unit);
             let day = Day::small().without(*d, unit);
             check_stop(&rt, &day, fault, 0)?;
-            let next = Determinant::try_from(u32::from(*d).wrapping_add(1))?;
-            check_stop(&rt, &day.with(next, unit, FAR), fault, 0)?;
+            check_stop(&rt, &day.with(*next, unit, FAR), fault, 0)?;
         }
     }
     Ok(())

@@ -1,5 +1,4 @@
 // The list of warnings.
-use super::record;
 use super::smallday::*;
 use intervals::warning::Warning;
 use rounding::rules::HalfAway;
@@ -109,22 +108,20 @@ fn row_before_a_stop(rt: HostRuntime) -> Result<(), Fail> {
 }
 
 // What every Resource of a full day has: neither cost, and nothing metered.
-const UNPAID: [(u32, i64); 7] = [
-    (1, 63),
-    (2, 120_000),
-    (3, 100_000),
-    (4, -100_000),
-    (6, 400_000),
-    (7, 100_000),
-    (8, 5_000),
+const UNPAID: [(Determinant, i64); 7] = [
+    (Determinant::Owner, 63),
+    (Determinant::Vssvariol, 120_000),
+    (Determinant::Urllag, 100_000),
+    (Determinant::Urllead, -100_000),
+    (Determinant::Hsl, 400_000),
+    (Determinant::Lsl, 100_000),
+    (Determinant::Rtspp, 5_000),
 ];
 
 fn full_day() -> [Record; 898] {
     let mut day = [all_day(Determinant::Vssvarpr, 0, 265); 898];
     for (rows, unit) in day.chunks_exact_mut(7).zip(0..RESOURCES as u32) {
-        for (row, (determinant, number)) in rows.iter_mut().zip(&UNPAID) {
-            *row = record([*determinant, unit, DAY, 0], *number);
-        }
+        write_resource(rows, unit, &UNPAID);
     }
     day[897] = all_day(Determinant::Lrs, 63, 1_000_000);
     day
