@@ -1,0 +1,5 @@
+pub mod Refusals
+pub mod Places
+pub mod Kept
+pub mod Calls
+pub mod Laws
