@@ -1,1 +1,7 @@
 pub mod Entries
+pub mod Sounds
+pub mod Reserving
+pub mod Reading
+pub mod Replacing
+pub mod Lifting
+pub mod Keeping

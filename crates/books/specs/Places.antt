@@ -1,5 +1,5 @@
 -- A place of a book. Assumes nothing.
-use Rattle.std.specs.Prelude.{ℕ, Bool, false, ◌&&◌, ◌||◌, List, nat_le, slice_set, unsigned_abs}
+use Rattle.std.specs.Prelude.{ℕ, Bool, false, ◌&&◌, ◌||◌, List, nat_le, slice_index_or, slice_set, unsigned_abs}
 use Rattle.std.proofs.Math.ListN.{replicate}
 use Rattle.amounts.specs.declared.row.Amounts.{Amounts}
 use Rattle.amounts.specs.Triples.{none}
@@ -12,6 +12,14 @@ zeros = replicate 64 none
 -- what is told of a day that a book does not hold
 abbrev pub blank : ℕ → Place
 blank d = record { day = d; reserved = false; billed = false; amounts = zeros }
+
+-- a place that no day has
+abbrev pub free : Place
+free = blank 0
+
+-- place i of a list
+abbrev pub at : List Place → ℕ → Place
+at xs i = slice_index_or xs i free
 
 -- held days are reserved or were billed; a place that is neither is free
 abbrev pub is_taken : Place → Bool
