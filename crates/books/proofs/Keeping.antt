@@ -29,9 +29,9 @@ put_keeps : (k : Kept) (y : Place) → Sound k → SoundPlace y → (holds k y.d
 put_keeps k y s p (inl h) = let l = put_held y k.held h in let f = s.fits in put_sound k y s p (omega (arith, l, f))
 put_keeps k y s p (inr m) =
     put_sound k y s p (elim turns [ inl h ↦ (let l = put_held y k.held h in let f = s.fits in omega (arith, l, f)) | inr h ↦ (let l = put_new y k.held h in omega (arith, l, m)) ])
-    where
-      turns : (holds k y.day ≡ true) ⊎ (holds k y.day ≡ false)
-      turns = grind arith
+  where
+    turns : (holds k y.day ≡ true) ⊎ (holds k y.day ≡ false)
+    turns = grind arith
 
 module _ (k : Kept) (d : ℕ) (s : Sound k) where
   -- a day that is reserved, held before or in a place of its own
@@ -47,8 +47,9 @@ module _ (k : Kept) (d : ℕ) (s : Sound k) where
   pub reserving_sound : Sound (reserving k d).after
   reserving_sound =
       elim reserving_turns [
-        inl g ↦ subst Sound (sym g.after) (put_keeps k _ s (marked_sound k d true (entry k d).billed s g.day refl) (subst (λ z. (holds k z ≡ true) ⊎ (length k.held < k.places)) (sym (entry_day d k.held)) g.room))
-      | inr h ↦ subst Sound (sym h) s ]
+        | inl g ↦ subst Sound (sym g.after) (put_keeps k _ s (marked_sound k d true (entry k d).billed s g.day refl) (subst (λ z. (holds k z ≡ true) ⊎ (length k.held < k.places)) (sym (entry_day d k.held)) g.room))
+        | inr h ↦ subst Sound (sym h) s
+      ]
 
   -- a day whose reservation is lifted
   record Lifted (b : Bool) : Type 0 where
@@ -66,14 +67,16 @@ module _ (k : Kept) (d : ℕ) (s : Sound k) where
   pub lifting_sound : (b : Bool) → Sound (lifting k d b).after
   lifting_sound b =
       elim (lifting_turns b) [
-        inl g ↦
-          let h = reserved_held g.reserved in
-          let l = cut_held d k.held h in
-          let f = s.fits in
-          elim g.after [
-            inl e ↦ subst Sound (sym e) (put_keeps k _ s (marked_sound k d false true s g.day refl) (inl (rw (entry_day d k.held) h)))
-          | inr e ↦ subst Sound (sym e) (cut_sound k d s (omega (arith, l, f))) ]
-      | inr h ↦ subst Sound (sym h) s ]
+        | inl g ↦
+            let h = reserved_held g.reserved in
+            let l = cut_held d k.held h in
+            let f = s.fits in
+            elim g.after [
+              | inl e ↦ subst Sound (sym e) (put_keeps k _ s (marked_sound k d false true s g.day refl) (inl (rw (entry_day d k.held) h)))
+              | inr e ↦ subst Sound (sym e) (cut_sound k d s (omega (arith, l, f)))
+            ]
+        | inr h ↦ subst Sound (sym h) s
+      ]
 
   -- an entity whose amounts are replaced
   record Replaced (q : ℕ) (a : Amounts) : Type 0 where
@@ -100,5 +103,6 @@ module _ (k : Kept) (d : ℕ) (s : Sound k) where
   pub replacing_sound : (q : ℕ) (a : Amounts) → Sound (replacing k d q a).after
   replacing_sound q a =
       elim (replacing_turns q a) [
-        inl g ↦ subst Sound (sym g.after) (put_keeps k _ s (replaced_sound q a g) (inl (rw (entry_day d k.held) (reserved_held g.reserved))))
-      | inr h ↦ subst Sound (sym h) s ]
+        | inl g ↦ subst Sound (sym g.after) (put_keeps k _ s (replaced_sound q a g) (inl (rw (entry_day d k.held) (reserved_held g.reserved))))
+        | inr h ↦ subst Sound (sym h) s
+      ]

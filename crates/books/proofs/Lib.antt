@@ -5,3 +5,4 @@ pub mod Reading
 pub mod Replacing
 pub mod Lifting
 pub mod Keeping
+pub mod Moving

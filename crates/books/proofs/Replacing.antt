@@ -60,19 +60,22 @@ module _ (k : Kept) (d q : ℕ) (a : Amounts) (s : Sound k) where
   elsewhere : (e r : ℕ) → ((e ≡ d) × (r ≡ q) → ⊥) → reading (replacing k d q a).after e r ≡ reading k e r
   elsewhere e r n =
       elim turns [
-        inl h ↦ elim (cases_eq e d) [
-          inl p ↦ read_same k (replacing k d q a).after e r (subst (λ z. account (entry (replacing k d q a).after z) r ≡ account (entry k z) r) (sym p) (beside r (λ o. n (p, o)) h))
-        | inr o ↦ read_same k (replacing k d q a).after e r (ap (λ x. account x r) ((changes h).elsewhere e o)) ]
-      | inr h ↦ ap (λ l. reading l e r) h ]
+        | inl h ↦ elim (cases_eq e d) [
+          | inl p ↦ read_same k (replacing k d q a).after e r (subst (λ z. account (entry (replacing k d q a).after z) r ≡ account (entry k z) r) (sym p) (beside r (λ o. n (p, o)) h))
+          | inr o ↦ read_same k (replacing k d q a).after e r (ap (λ x. account x r) ((changes h).elsewhere e o))
+        ]
+        | inr h ↦ ap (λ l. reading l e r) h
+      ]
 
   same : (e : ℕ) → holds (replacing k d q a).after e ≡ holds k e
   same e =
       elim turns [
-        inl h ↦
-          let c = accepted h in
-          let t : holds k d ≡ true = let f = held_taken d k.held s.each in let g = c.reserved in grind arith in
-          ap (λ l. holds l e) c.after ∙ put_holds (replaced (entry k d) q a) k.held e (rw (entry_day d k.held) t)
-      | inr h ↦ ap (λ l. holds l e) h ]
+        | inl h ↦
+            let c = accepted h in
+            let t : holds k d ≡ true = let f = held_taken d k.held s.each in let g = c.reserved in grind arith in
+            ap (λ l. holds l e) c.after ∙ put_holds (replaced (entry k d) q a) k.held e (rw (entry_day d k.held) t)
+        | inr h ↦ ap (λ l. holds l e) h
+      ]
 
   pub replaces : Replaces k d q a
   replaces = record { refused = refused; there = there; elsewhere = elsewhere; same = same }

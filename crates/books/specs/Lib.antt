@@ -3,3 +3,4 @@ pub mod Places
 pub mod Kept
 pub mod Calls
 pub mod Laws
+pub mod Stores

@@ -3,5 +3,7 @@
 
 pub mod account;
 pub mod laws;
+pub mod moves;
 pub mod place;
 pub mod refusal;
+pub mod store;
