@@ -5,4 +5,6 @@ pub mod Reading
 pub mod Replacing
 pub mod Lifting
 pub mod Keeping
+pub mod Seating
 pub mod Moving
+pub mod Testing

@@ -3,4 +3,7 @@ pub mod Places
 pub mod Kept
 pub mod Calls
 pub mod Laws
+pub mod Tests
 pub mod Stores
+pub mod Seats
+pub mod Lifts

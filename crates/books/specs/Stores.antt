@@ -1,5 +1,5 @@
 -- How a store's places become what a book keeps. Assumes nothing.
-use Rattle.std.specs.Prelude.{◌≡◌, ℕ, suc, ◌+◌, ◌-◌, ◌<◌, ◌≤◌, cond, List, [], ◌∷◌, ◌++◌, length, take, nat_lt, ◌==◌}
+use Rattle.std.specs.Prelude.{◌≡◌, ℕ, ◌+◌, ◌-◌, ◌<◌, ◌≤◌, List, [], ◌∷◌, ◌++◌, length, take}
 use Rattle.std.proofs.Math.ListN.{replicate}
 use Rattle.books.specs.declared.place.Place.{Place}
 use Rattle.books.specs.Places.{free, at}
@@ -17,11 +17,6 @@ kept_of xs used = record { places = length xs; held = take used xs }
 -- the places that a meaning has
 abbrev pub laid : Kept → List Place
 laid k = k.held ++ replicate (k.places - length k.held) free
-
--- how many held days stand before day d
-abbrev pub before : ℕ → List Place → ℕ
-before d [] = 0
-before d (x ∷ xs) = cond (nat_lt x.day d) (suc (before d xs)) 0
 
 -- places after y took place i and those from there on, before j, have moved up by one
 pub record Opened (old new : List Place) (i j : ℕ) (y : Place) : Type 0 where

@@ -2,8 +2,11 @@
 #![tactic(auto)]
 
 pub mod account;
+pub mod book;
 pub mod laws;
-pub mod moves;
+mod moves;
 pub mod place;
 pub mod refusal;
+mod seats;
+pub mod shelf;
 pub mod store;

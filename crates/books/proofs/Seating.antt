@@ -1,0 +1,43 @@
+-- Looking for a day among held days.
+use Rattle.std.proofs.Common.{◌≡◌, ℕ, zero, suc, ◌+◌, true, false, ◌<◌, ◌≤◌, List, [], ◌∷◌, length, take, drop, arith, refl, get_or-take, length-take-le}
+use Rattle.std.proofs.lemmas.List.{drop_more}
+use Rattle.books.specs.declared.place.Place.{Place}
+use Rattle.books.specs.Places.{at, free, blank}
+use Rattle.books.specs.Kept.{entry_in, holds_in}
+use Rattle.books.specs.Seats.{before, SeatOf}
+
+-- the first i days were passed by
+pub record Passed (d : ℕ) (xs : List Place) (i : ℕ) : Type 0 where
+  pub index : before d xs ≡ i + before d (drop i xs)
+  pub held : holds_in d xs ≡ holds_in d (drop i xs)
+  pub place : entry_in d xs ≡ entry_in d (drop i xs)
+
+-- what is left of the held places begins with the next
+pub left : (xs : List Place) (u i : ℕ) → i < u → u ≤ length xs → drop i (take u xs) ≡ at xs i ∷ drop (i + 1) (take u xs)
+left xs u i l m =
+    let n = length-take-le u xs m in
+    let g : i < length (take u xs) = omega (arith, l, n) in
+    rw (← get_or-take u xs i free l) (drop_more (take u xs) i free g)
+
+module _ (d : ℕ) (xs : List Place) (i : ℕ) (x : Place) (next : drop i xs ≡ x ∷ drop (i + 1) xs) (p : Passed d xs i) where
+  pub passed_more : x.day < d → Passed d xs (i + 1)
+  passed_more l = let a = p.index in let b = p.held in let c = p.place in record { index = grind arith; held = grind arith; place = grind arith }
+
+  pub seat_here : x.day ≡ d → SeatOf d xs (record { index = i; is_held = true; place = x })
+  seat_here e = let a = p.index in let b = p.held in let c = p.place in record { index = grind arith; held = grind arith; place = grind arith }
+
+  pub seat_none : d < x.day → SeatOf d xs (record { index = i; is_held = false; place = blank d })
+  seat_none l = let a = p.index in let b = p.held in let c = p.place in record { index = grind arith; held = grind arith; place = grind arith }
+
+-- no day is left
+drop_all : (xs : List Place) (u : ℕ) → drop u (take u xs) ≡ []
+drop_all [] zero = refl
+drop_all [] (suc u) = refl
+drop_all (x ∷ xs) zero = refl
+drop_all (x ∷ xs) (suc u) = drop_all xs u
+
+pub seat_past : (d : ℕ) (xs : List Place) (u : ℕ) → Passed d (take u xs) u → SeatOf d (take u xs) (record { index = u; is_held = false; place = blank d })
+seat_past d xs u p =
+    let e = drop_all xs u in
+    let a = p.index in let b = p.held in let c = p.place in
+    record { index = grind arith; held = grind arith; place = grind arith }
