@@ -6,5 +6,6 @@ pub mod Replacing
 pub mod Lifting
 pub mod Keeping
 pub mod Seating
+pub mod Puts
 pub mod Moving
 pub mod Testing

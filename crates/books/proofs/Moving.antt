@@ -6,7 +6,7 @@ use Rattle.books.specs.Places.{free, at}
 use Rattle.books.specs.Stores.{Opened, Closed}
 
 -- at is what a place is after one is written
-set_at : (xs : List Place) (j q : ℕ) (c : Place) → j < length xs → at (set xs j c) q ≡ cond (q == j) c (at xs q)
+pub set_at : (xs : List Place) (j q : ℕ) (c : Place) → j < length xs → at (set xs j c) q ≡ cond (q == j) c (at xs q)
 set_at xs j q c l =
     elim (cases_eq q j) [
       | inl e ↦ (let h = get_or-set_same xs j c free l in grind arith)

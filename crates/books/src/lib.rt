@@ -8,5 +8,6 @@ mod moves;
 pub mod place;
 pub mod refusal;
 mod seats;
+mod settling;
 pub mod shelf;
 pub mod store;
