@@ -1,6 +1,6 @@
 -- Putting a day among the places in use, and cutting one.
 use Rattle.std.proofs.Common.{◌≡◌, ℕ, zero, suc, ◌+◌, ◌-◌, Bool, true, false, cond, nat_lt, ◌==◌, ◌<◌, ◌≤◌, List, length, take, set, sym, subst, inl, inr, ◌∙◌, ap, arith, refl, get_or-take, length-take-le, length-set}
-use Rattle.std.proofs.lemmas.Bool.{cases_order}
+use Rattle.std.proofs.lemmas.Bool.{cases_order, cases_lt}
 use Rattle.std.proofs.lemmas.List.{ext_get_or}
 use Rattle.books.specs.declared.place.Place.{Place}
 use Rattle.books.specs.declared.seats.Seat.{Seat}
@@ -94,10 +94,12 @@ module _ (xs : List Place) (u : ℕ) (y : Place) (within : u ≤ length xs) wher
       each : (q : ℕ) → q < length (take (u + 1) new) → at (take (u + 1) new) q ≡ at (put_in y (take u xs)) q
       each q l =
           elim (cases_order q i) [
-            inl e' ↦ subst (λ z. at (take (u + 1) new) z ≡ at (put_in y (take u xs)) z) (sym e') here
-          | inr o' ↦ elim o' [
-              inl k ↦ low q k
-            | inr k ↦ subst (λ z. at (take (u + 1) new) z ≡ at (put_in y (take u xs)) z) (succ k) (high (q - 1) (omega (arith, k)) (omega (arith, k, l, m))) ] ]
+            | inl e' ↦ subst (λ z. at (take (u + 1) new) z ≡ at (put_in y (take u xs)) z) (sym e') here
+            | inr o' ↦ elim o' [
+              | inl k ↦ low q k
+              | inr k ↦ subst (λ z. at (take (u + 1) new) z ≡ at (put_in y (take u xs)) z) (succ k) (high (q - 1) (omega (arith, k)) (omega (arith, k, l, m)))
+            ]
+          ]
         where
           succ : i < q → q - 1 + 1 ≡ q
           succ k = omega (arith, k)
@@ -118,3 +120,39 @@ seat_below d xs u s l t h =
     let n = length-take-le u xs l in
     let e = t.index in
     omega (arith, b, n, e)
+
+module _ (xs new : List Place) (u d i : ℕ) (within : u ≤ length xs) (o : Closed xs new i u) (e : i ≡ before d (take u xs)) (h : holds_in d (take u xs) ≡ true) where
+  -- a held day is cut
+  pub take_cut : take (u - 1) new ≡ cut_in d (take u xs)
+  take_cut = ext_get_or free (take (u - 1) new) (cut_in d (take u xs)) same each
+    where
+      n : length (take u xs) ≡ u
+      n = length-take-le u xs within
+
+      b : i < u
+      b = let a = before_held d (take u xs) h in omega (arith, a, n, e)
+
+      m : length (take (u - 1) new) ≡ u - 1
+      m = let l = o.long in length-take-le (u - 1) new (omega (arith, l, within))
+
+      same : length (take (u - 1) new) ≡ length (cut_in d (take u xs))
+      same = let p = cut_held d (take u xs) h in omega (arith, m, n, p, b)
+
+      each : (q : ℕ) → q < length (take (u - 1) new) → at (take (u - 1) new) q ≡ at (cut_in d (take u xs)) q
+      each q l =
+          let k : q < u - 1 = rw (sym m) l in
+          let a = get_or-take (u - 1) new q free k in
+          let f = cut_at d (take u xs) q h in
+          let g = get_or-take u xs q free (omega (arith, k)) in
+          let g' = get_or-take u xs (q + 1) free (omega (arith, k)) in
+          elim (cases_lt q i) [
+            | inl p ↦ (let o1 = o.below q p in grind arith)
+            | inr p ↦ (let o2 = o.moved q p (omega (arith, k)) in grind arith)
+          ]
+
+  pub free_cut : ((q : ℕ) → u ≤ q → at xs q ≡ free) → (q : ℕ) → u - 1 ≤ q → at new q ≡ free
+  free_cut f q m =
+      elim (cases_lt q u) [
+        | inl p ↦ o.last q (omega (arith, p, m))
+        | inr p ↦ (o.above q p ∙ f q p)
+      ]

@@ -27,4 +27,14 @@ impl<S: Store> Shelf<S> {
             self.used += 1;
         }
     }
+    // Cuts a held day, which gives its place back.
+    pub(crate) fn remove(&mut self, seat: Seat)
+        requires seat { SeatOf seat.place.day (take self.old.used (S.Store.slots self.old.store)) seat }
+        requires held { seat.is_held ≡ true }
+        ensures kept { kept_of (S.Store.slots self.new.store) self.new.used ≡ cut (kept_of (S.Store.slots self.old.store) self.old.used) seat.place.day }
+        ensures beside { S.Store.beside self.new.store ≡ S.Store.beside self.old.store }
+    {
+        close_gap(&mut self.store, seat.index, self.used);
+        self.used -= 1;
+    }
 }
