@@ -6,17 +6,18 @@ use Rattle.amounts.specs.declared.row.Amounts.{Amounts}
 use Rattle.amounts.specs.Triples.{none}
 use Rattle.books.specs.declared.place.Place.{Place}
 use Rattle.books.specs.Places.{marked, replaced, in_range}
-use Rattle.books.specs.Kept.{Kept, entry, holds, put, cut, put_in, cut_in}
+use Rattle.std.specs.List.{AllByRecursion}
+use Rattle.books.specs.Kept.{Kept, entry_in, entry, holds, put, cut, put_in, cut_in}
 use Rattle.books.specs.Calls.{reserving, replacing, lifting}
 use Rattle.books.specs.Laws.{Sound, SoundPlace}
 use Rattle.books.proofs.Entries.{entry_day, held_taken, put_held, put_new, cut_held}
 use Rattle.books.proofs.Sounds.{Amounted, entry_amounted, put_sound, cut_sound}
 
 -- a day of which something is kept, with other marks
-marked_sound : (k : Kept) (d : ℕ) (r b : Bool) → Sound k → d ≤ last_day → (r || b) ≡ true → SoundPlace (marked (entry k d) r b)
-marked_sound k d r b s l t =
-    let m = entry_amounted d k.held s.each in
-    record { day = rw (entry_day d k.held) l; taken = t; long = m.long; ranged = m.ranged }
+pub marked_in : (d : ℕ) (xs : List Place) (r b : Bool) → AllByRecursion SoundPlace xs → d ≤ last_day → (r || b) ≡ true → SoundPlace (marked (entry_in d xs) r b)
+marked_in d xs r b s l t =
+    let m = entry_amounted d xs s in
+    record { day = rw (entry_day d xs) l; taken = t; long = m.long; ranged = m.ranged }
 
 set_ranged : (xs : List Amounts) (q : ℕ) (a : Amounts) → ((r : ℕ) → in_range (get_or xs r none) ≡ true) → in_range a ≡ true → (r : ℕ) → in_range (get_or (set xs q a) r none) ≡ true
 set_ranged [] q a h t r = h r
@@ -24,6 +25,17 @@ set_ranged (x ∷ xs) zero a h t zero = t
 set_ranged (x ∷ xs) zero a h t (suc r) = h (suc r)
 set_ranged (x ∷ xs) (suc q) a h t zero = h 0
 set_ranged (x ∷ xs) (suc q) a h t (suc r) = set_ranged xs q a (λ i. h (suc i)) t r
+
+-- and with another entity's amounts
+pub replaced_in : (d : ℕ) (xs : List Place) (q : ℕ) (a : Amounts) → AllByRecursion SoundPlace xs → d ≤ last_day → in_range a ≡ true → (entry_in d xs).reserved ≡ true → SoundPlace (replaced (entry_in d xs) q a)
+replaced_in d xs q a s l h t =
+    let m = entry_amounted d xs s in
+    record {
+      day = rw (entry_day d xs) l;
+      taken = grind arith;
+      long = length-set (entry_in d xs).amounts q a ∙ m.long;
+      ranged = set_ranged (entry_in d xs).amounts q a m.ranged h;
+    }
 
 put_keeps : (k : Kept) (y : Place) → Sound k → SoundPlace y → (holds k y.day ≡ true) ⊎ (length k.held < k.places) → Sound (put k y)
 put_keeps k y s p (inl h) = let l = put_held y k.held h in let f = s.fits in put_sound k y s p (omega (arith, l, f))
@@ -47,7 +59,7 @@ module _ (k : Kept) (d : ℕ) (s : Sound k) where
   pub reserving_sound : Sound (reserving k d).after
   reserving_sound =
       elim reserving_turns [
-        | inl g ↦ subst Sound (sym g.after) (put_keeps k _ s (marked_sound k d true (entry k d).billed s g.day refl) (subst (λ z. (holds k z ≡ true) ⊎ (length k.held < k.places)) (sym (entry_day d k.held)) g.room))
+        | inl g ↦ subst Sound (sym g.after) (put_keeps k _ s (marked_in d k.held true (entry k d).billed s.each g.day refl) (subst (λ z. (holds k z ≡ true) ⊎ (length k.held < k.places)) (sym (entry_day d k.held)) g.room))
         | inr h ↦ subst Sound (sym h) s
       ]
 
@@ -72,7 +84,7 @@ module _ (k : Kept) (d : ℕ) (s : Sound k) where
             let l = cut_held d k.held h in
             let f = s.fits in
             elim g.after [
-              | inl e ↦ subst Sound (sym e) (put_keeps k _ s (marked_sound k d false true s g.day refl) (inl (rw (entry_day d k.held) h)))
+              | inl e ↦ subst Sound (sym e) (put_keeps k _ s (marked_in d k.held false true s.each g.day refl) (inl (rw (entry_day d k.held) h)))
               | inr e ↦ subst Sound (sym e) (cut_sound k d s (omega (arith, l, f)))
             ]
         | inr h ↦ subst Sound (sym h) s
@@ -89,20 +101,9 @@ module _ (k : Kept) (d : ℕ) (s : Sound k) where
   unfolding replacing
   replacing_turns q a = grind arith
 
-  replaced_sound : (q : ℕ) (a : Amounts) → Replaced q a → SoundPlace (replaced (entry k d) q a)
-  replaced_sound q a g =
-      let m = entry_amounted d k.held s.each in
-      let t = g.reserved in
-      record {
-        day = rw (entry_day d k.held) g.day;
-        taken = grind arith;
-        long = length-set (entry k d).amounts q a ∙ m.long;
-        ranged = set_ranged (entry k d).amounts q a m.ranged g.ranged;
-      }
-
   pub replacing_sound : (q : ℕ) (a : Amounts) → Sound (replacing k d q a).after
   replacing_sound q a =
       elim (replacing_turns q a) [
-        | inl g ↦ subst Sound (sym g.after) (put_keeps k _ s (replaced_sound q a g) (inl (rw (entry_day d k.held) (reserved_held g.reserved))))
+        | inl g ↦ subst Sound (sym g.after) (put_keeps k _ s (replaced_in d k.held q a s.each g.day g.ranged g.reserved) (inl (rw (entry_day d k.held) (reserved_held g.reserved))))
         | inr h ↦ subst Sound (sym h) s
       ]

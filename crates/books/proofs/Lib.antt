@@ -9,3 +9,4 @@ pub mod Seating
 pub mod Puts
 pub mod Moving
 pub mod Testing
+pub mod Shelving

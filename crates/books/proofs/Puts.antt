@@ -14,7 +14,8 @@ use Rattle.books.proofs.Entries.{put_held, put_new, put_rises, cut_held}
 use Rattle.books.proofs.Sounds.{put_each, cut_each, cut_rises}
 use Rattle.books.proofs.Moving.{set_at}
 use Rattle.books.proofs.Seating.{put_at_held, put_at_new, cut_at, before_held, before_le}
-use Rattle.books.proofs.Testing.{rising_by, rises_by, each_by, all_by, place_by}
+use Rattle.books.specs.ShelvesKept.{rising_by, each_by, place_by}
+use Rattle.books.proofs.Testing.{rises_by, all_by}
 
 pub put_rising : (y : Place) (hs : List Place) → rises hs ≡ true → rises (put_in y hs) ≡ true
 put_rising y hs r = rises_by (put_in y hs) (put_rises y hs (rising_by hs r))

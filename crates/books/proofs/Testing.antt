@@ -10,18 +10,6 @@ use Rattle.books.specs.Laws.{Rising, SoundPlace}
 use Rattle.books.specs.Tests.{rises_from, rises, all_ranged, is_sound, all_sound}
 use Rattle.books.proofs.Entries.{below}
 
-from_rises : (d : ℕ) (xs : List Place) → rises_from d xs ≡ true → AllByRecursion (λ y. d < y.day) xs × Rising xs
-unfolding rises_from
-from_rises d [] h = (tt, tt)
-from_rises d (x ∷ xs) h =
-    let l : d < x.day = grind arith in
-    let g = from_rises x.day xs (grind arith) in
-    ((l, below x.day d xs (omega (arith, l)) g.0), (g.0, g.1))
-
-pub rising_by : (xs : List Place) → rises xs ≡ true → Rising xs
-rising_by [] h = tt
-rising_by (x ∷ xs) h = from_rises x.day xs h
-
 to_rises : (d : ℕ) (xs : List Place) → AllByRecursion (λ y. d < y.day) xs → Rising xs → rises_from d xs ≡ true
 unfolding rises_from
 to_rises d [] a r = refl
@@ -31,27 +19,13 @@ pub rises_by : (xs : List Place) → Rising xs → rises xs ≡ true
 rises_by [] r = refl
 rises_by (x ∷ xs) r = to_rises x.day xs r.0 r.1
 
-ranged_by : (xs : List Amounts) → all_ranged xs ≡ true → (q : ℕ) → in_range (get_or xs q none) ≡ true
-unfolding all_ranged
-ranged_by [] h q = refl
-ranged_by (x ∷ xs) h zero = grind arith
-ranged_by (x ∷ xs) h (suc q) = ranged_by xs (grind arith) q
-
 all_ranged_by : (xs : List Amounts) → ((q : ℕ) → in_range (get_or xs q none) ≡ true) → all_ranged xs ≡ true
 unfolding all_ranged
 all_ranged_by [] h = refl
 all_ranged_by (x ∷ xs) h = let a = h 0 in let g = all_ranged_by xs (λ q. h (suc q)) in grind arith
 
-pub place_by : (x : Place) → is_sound x ≡ true → SoundPlace x
-place_by x h = record { day = grind arith; taken = grind arith; long = grind arith; ranged = ranged_by x.amounts (grind arith) }
-
 pub sound_by : (x : Place) → SoundPlace x → is_sound x ≡ true
 sound_by x s = let d = s.day in let t = s.taken in let l = s.long in let r = all_ranged_by x.amounts s.ranged in grind arith
-
-pub each_by : (xs : List Place) → all_sound xs ≡ true → AllByRecursion SoundPlace xs
-unfolding all_sound
-each_by [] h = tt
-each_by (x ∷ xs) h = (place_by x (grind arith), each_by xs (grind arith))
 
 pub all_by : (xs : List Place) → AllByRecursion SoundPlace xs → all_sound xs ≡ true
 unfolding all_sound

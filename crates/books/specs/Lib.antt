@@ -7,3 +7,4 @@ pub mod Tests
 pub mod Stores
 pub mod Seats
 pub mod Lifts
+pub mod ShelvesKept

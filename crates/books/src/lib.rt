@@ -3,6 +3,7 @@
 
 pub mod account;
 pub mod book;
+pub mod calls;
 pub mod laws;
 mod moves;
 pub mod place;
