@@ -36,13 +36,17 @@ amount_of bs = cast_signed w64 (from_le_bytes w64 bs)
 abbrev pub amounts_of : List ℕ → Amounts
 amounts_of bs = record { reactive = amount_of (take 8 bs); held = amount_of (take 8 (drop 8 bs)); load = amount_of (take 8 (drop 16 bs)) }
 
+-- the amounts of 64 entities, after the head of a place
+unfoldable pub all_amounts : List ℕ → List Amounts
+all_amounts bs = map amounts_of (first_chunks 24 64 (drop 8 bs))
+
 -- what the bytes of a place say
 unfoldable pub place_of : List ℕ → Place
 place_of bs = record {
   day = from_le_bytes w16 (slice_index bs 2 ∷ slice_index bs 3 ∷ []);
   reserved = slice_index bs 0 % 2 == 1;
   billed = nat_le 2 (slice_index bs 0);
-  amounts = map amounts_of (first_chunks 24 64 (drop 8 bs));
+  amounts = all_amounts bs;
 }
 
 -- the mark is at most 3

@@ -1,7 +1,7 @@
 use Rattle.std.proofs.Common.{◌≡◌, ℕ, ◌<◌, [], get_or, length, rules}
 use Rattle.amounts.specs.Triples.{none}
 use Rattle.image.specs.Places.{words}
-use Rattle.image.proofs.Writing.{mapped}
+use Rattle.image.proofs.Lists.{mapped}
 use Rattle.image.proofs.write.all_words.Goals as goal
 
 pub returns : goal.returns
