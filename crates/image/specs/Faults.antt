@@ -1,5 +1,5 @@
 -- How the bytes of a place are read. Assumes nothing.
-use Rattle.std.specs.Prelude.{ℕ, Bool, cond, List, Ok, Err, Result}
+use Rattle.std.specs.Prelude.{ℕ, cond, List, Ok, Err, Result}
 use Rattle.books.specs.declared.place.Place.{Place}
 use Rattle.image.specs.declared.fault.PlaceFault.{PlaceFault}
 use Rattle.image.specs.declared.fault.PlaceFault.TheVariants.{Mark, Filler}

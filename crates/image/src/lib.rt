@@ -2,5 +2,6 @@
 #![tactic(auto)]
 
 pub mod fault;
+pub mod laws;
 pub mod read;
 pub mod write;
