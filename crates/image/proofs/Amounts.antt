@@ -1,6 +1,6 @@
 -- An amount in eight bytes, and three of them in 24.
-use Rattle.std.proofs.Common.{◌≡◌, ℕ, zero, suc, ◌+◌, ◌<◌, ◌^◌, ℤ, List, [], ◌∷◌, length, get_or, take, drop, arith, refl, ap, ◌∙◌, length-drop}
-use Rattle.std.specs.Int.{w64, cast_signed, cast_unsigned, from_le_bytes}
+use Rattle.std.proofs.Common.{◌≡◌, ℕ, zero, suc, ◌+◌, ◌<◌, ◌^◌, ℤ, List, [], ◌∷◌, ◌++◌, length, get_or, take, drop, arith, refl, ap, ◌∙◌, length-drop}
+use Rattle.std.specs.Int.{w64, byte_at, bytes_low_first, cast_signed, cast_unsigned, from_le_bytes}
 use Rattle.std.specs.Prelude.{FitsSigned}
 use Rattle.std.proofs.lemmas.Int.{ints, to_z-of_z, of_z-to_z}
 use Rattle.std.proofs.lemmas.List.{get_or-drop, length-take, take_all, take-append-drop, drop-drop}
@@ -59,3 +59,44 @@ amounts_exact bs l h =
     let q = take-append-drop 8 (drop 8 bs) in
     let r : drop 8 (drop 8 bs) ≡ drop 16 bs = drop-drop 8 8 bs in
     cc
+
+-- ---- what an amount's bytes are, and what amounts can be
+
+pub small_cons : (b : ℕ) (bs : List ℕ) → b < 256 → Small bs → Small (b ∷ bs)
+small_cons b bs l h zero = l
+small_cons b bs l h (suc i) = h i
+
+pub small_append : (bs cs : List ℕ) → Small bs → Small cs → Small (bs ++ cs)
+small_append [] cs h k = k
+small_append (b ∷ bs) cs h k = small_cons b (bs ++ cs) (h 0) (small_append bs cs (λ i. h (suc i)) k)
+
+pub small_none : Small []
+small_none i = omega arith
+
+byte_small : (i n : ℕ) → byte_at i n < 256
+byte_small zero n = omega arith
+byte_small (suc i) n = omega arith
+
+pub low_small : (i k n : ℕ) → Small (bytes_low_first i k n)
+low_small i zero n = small_none
+low_small i (suc k) n = small_cons _ _ (byte_small i n) (low_small (suc i) k n)
+
+small_word : (z : ℤ) → Small (word z)
+unfolding word
+small_word z = low_small 0 8 (cast_unsigned w64 z)
+
+pub small_amounts : (a : Amounts) → Small (amounts_bytes a)
+small_amounts a = small_append (word a.reactive) _ (small_word a.reactive) (small_append (word a.held) _ (small_word a.held) (small_word a.load))
+
+number_fits : (n : ℕ) → n < 2 ^ 64 → FitsSigned w64 (cast_signed w64 n)
+number_fits n l = grind arith
+
+fits : (bs : List ℕ) → Small bs → FitsSigned w64 (amount_of bs)
+fits bs h = number_fits (from_le_bytes w64 bs) (number_below bs h)
+
+pub amounts_fit : (bs : List ℕ) → Small bs → Fits (amounts_of bs)
+amounts_fit bs h = record {
+  reactive = fits (take 8 bs) (small_take 8 bs h);
+  held = fits (take 8 (drop 8 bs)) (small_take 8 (drop 8 bs) (small_drop 8 bs h));
+  load = fits (take 8 (drop 16 bs)) (small_take 8 (drop 16 bs) (small_drop 16 bs h));
+}

@@ -1,16 +1,18 @@
 -- What was written is read back.
-use Rattle.std.proofs.Common.{◌≡◌, ℕ, Bool, true, suc, ◌*◌, ◌%◌, List, [], ◌∷◌, map, length, arith, refl, ap, ◌∙◌, sym, length-append}
+use Rattle.std.proofs.Common.{◌≡◌, ℕ, Bool, true, zero, suc, ◌*◌, ◌%◌, ◌<◌, List, [], ◌∷◌, ◌++◌, map, length, arith, refl, ap, ◌∙◌, sym, length-append}
 use Rattle.std.specs.Prelude.{slice_index_or, nat_le, ◌==◌, ◌&&◌}
 use Rattle.std.specs.List.{flat_map}
+use Rattle.std.specs.Int.{w16, to_le_bytes}
 use Rattle.std.specs.Simd.{first_chunks}
+use Rattle.std.proofs.Math.ListN.{replicate}
 use Rattle.std.proofs.lemmas.List.{take_at, drop_at}
 use Rattle.std.proofs.lemmas.Nat.{from_le_bytes-to_le_bytes_2}
 use Rattle.amounts.specs.declared.row.Amounts.{Amounts}
 use Rattle.amounts.specs.Triples.{none}
 use Rattle.books.specs.declared.place.Place.{Place}
-use Rattle.image.specs.Places.{amounts_bytes, amounts_of, all_amounts, mark, place_bytes, place_of}
-use Rattle.image.specs.Laws.{Fits, IsPlace, Written}
-use Rattle.image.proofs.Amounts.{length-amounts_bytes, amounts_back}
+use Rattle.image.specs.Places.{amounts_bytes, amounts_of, all_amounts, mark, head_bytes, place_bytes, place_of}
+use Rattle.image.specs.Laws.{Fits, IsPlace, IsBytes, Written}
+use Rattle.image.proofs.Amounts.{Small, small_none, low_small, small_cons, small_append, small_amounts, length-amounts_bytes, amounts_back}
 
 length-all : (xs : List Amounts) → length (flat_map amounts_bytes xs) ≡ 24 * length xs
 length-all [] = refl
@@ -52,10 +54,37 @@ made d r b xs = record { day = d; reserved = r; billed = b; amounts = xs }
 same_place : (d e : ℕ) (r s b c : Bool) (xs ys : List Amounts) → d ≡ e → r ≡ s → b ≡ c → xs ≡ ys → made d r b xs ≡ made e s c ys
 same_place d e r s b c xs ys h i j k = cc
 
-pub written : (x : Place) → IsPlace x → Written x
-unfolding place_bytes place_of
-written x p = record {
+small_all : (xs : List Amounts) → Small (flat_map amounts_bytes xs)
+small_all [] = small_none
+small_all (x ∷ xs) = small_append (amounts_bytes x) _ (small_amounts x) (small_all xs)
+
+mark_small : (x : Place) → mark x < 256
+mark_small x = grind arith
+
+small_zeros : (n : ℕ) → Small (replicate n 0)
+small_zeros zero = small_none
+small_zeros (suc n) = small_cons 0 (replicate n 0) (omega arith) (small_zeros n)
+
+small_head : (x : Place) → Small (head_bytes x)
+small_head x =
+    let rest = to_le_bytes w16 x.day ++ replicate 4 0 in
+    small_cons (mark x) (0 ∷ rest) (mark_small x) (small_cons 0 rest (omega arith) (small_append (to_le_bytes w16 x.day) (replicate 4 0) (low_small 0 2 x.day) (small_zeros 4)))
+
+small_bytes : (x : Place) → Small (place_bytes x)
+unfolding place_bytes
+small_bytes x = small_append (head_bytes x) _ (small_head x) (small_all x.amounts)
+
+bytes : (x : Place) → IsPlace x → IsBytes (place_bytes x)
+unfolding place_bytes
+bytes x p = record {
   long = (let l = length-all x.amounts in let m = p.long in omega arith);
+  small = small_bytes x;
   formed = ap (λ b. b && true) (mark_formed x);
-  back = same_place _ _ _ _ _ _ _ _ (from_le_bytes-to_le_bytes_2 x.day (let d = p.day in omega arith)) (reserved_back x) (billed_back x) (amounts_read x p);
 }
+
+back : (x : Place) → IsPlace x → place_of (place_bytes x) ≡ x
+unfolding place_bytes place_of
+back x p = same_place _ _ _ _ _ _ _ _ (from_le_bytes-to_le_bytes_2 x.day (let d = p.day in omega arith)) (reserved_back x) (billed_back x) (amounts_read x p)
+
+pub written : (x : Place) → IsPlace x → Written x
+written x p = record { bytes = bytes x p; back = back x p }

@@ -1,12 +1,14 @@
 -- What was read is written back.
-use Rattle.std.proofs.Common.{◌≡◌, ℕ, true, zero, suc, ◌+◌, ◌*◌, ◌%◌, ◌/◌, ◌≤◌, List, ◌∷◌, ◌++◌, map, length, get_or, take, drop, arith, ◌∙◌, sym, length-drop}
-use Rattle.std.specs.Prelude.{nat_le, ◌==◌, cond}
+use Rattle.std.proofs.Common.{◌≡◌, ℕ, w64, true, zero, suc, ◌+◌, ◌*◌, ◌%◌, ◌/◌, ◌≤◌, List, ◌∷◌, ◌++◌, map, length, get_or, take, drop, arith, ◌∙◌, sym, length-drop}
+use Rattle.std.specs.Prelude.{pos, FitsSigned, slice_index_or, nat_le, ◌==◌, cond}
 use Rattle.std.specs.List.{flat_map}
 use Rattle.std.specs.Simd.{first_chunks}
-use Rattle.std.proofs.lemmas.List.{take-append-drop, length-take, drop_more, nil_from_length}
+use Rattle.std.proofs.lemmas.List.{length-map, take-append-drop, length-take, drop_more, nil_from_length}
 use Rattle.image.specs.Places.{amounts_bytes, amounts_of, all_amounts, place_bytes, place_of, is_formed}
-use Rattle.image.specs.Laws.{IsBytes}
-use Rattle.image.proofs.Amounts.{Small, small_take, small_drop, amounts_exact}
+use Rattle.image.specs.Laws.{Fits, IsPlace, IsBytes, Read}
+use Rattle.image.proofs.Amounts.{Small, small_take, small_drop, amounts_exact, amounts_fit}
+use Rattle.image.proofs.Reading.{length-first_chunks}
+use Rattle.amounts.specs.Triples.{none}
 
 same_join : (xs ys us vs : List ℕ) → xs ≡ us → ys ≡ vs → xs ++ ys ≡ us ++ vs
 same_join xs ys us vs e f = cc
@@ -51,7 +53,7 @@ amounts_written bs p =
     let l = p.long in
     all_exact 64 (drop 8 bs) (omega (arith, length-drop 8 bs)) (small_drop 8 bs p.small)
 
-pub exact : (bs : List ℕ) → IsBytes bs → place_bytes (place_of bs) ≡ bs
+exact : (bs : List ℕ) → IsBytes bs → place_bytes (place_of bs) ≡ bs
 unfolding place_bytes place_of
 exact bs p =
     let f = head bs p.formed in
@@ -64,3 +66,25 @@ exact bs p =
     let r = amounts_written bs p in
     let e = eight bs (omega arith) in
     cc
+
+zero_fits : FitsSigned w64 (pos 0)
+zero_fits = record { sfits = omega arith }
+
+none_fits : Fits none
+none_fits = record { reactive = zero_fits; held = zero_fits; load = zero_fits }
+
+all_fit : (n : ℕ) (bs : List ℕ) → Small bs → (q : ℕ) → Fits (slice_index_or (map amounts_of (first_chunks 24 n bs)) q none)
+all_fit zero bs h q = none_fits
+all_fit (suc n) bs h zero = amounts_fit (take 24 bs) (small_take 24 bs h)
+all_fit (suc n) bs h (suc q) = all_fit n (drop 24 bs) (small_drop 24 bs h) q
+
+is_place : (bs : List ℕ) → IsBytes bs → IsPlace (place_of bs)
+unfolding place_of all_amounts
+is_place bs p = record {
+  day = (let low = p.small 2 in let high = p.small 3 in omega arith);
+  long = length-map (first_chunks 24 64 (drop 8 bs)) amounts_of ∙ length-first_chunks 24 64 (drop 8 bs);
+  fits = all_fit 64 (drop 8 bs) (small_drop 8 bs p.small);
+}
+
+pub read : (bs : List ℕ) → IsBytes bs → Read bs
+read bs p = record { place = is_place bs p; back = exact bs p }

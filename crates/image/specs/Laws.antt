@@ -25,8 +25,12 @@ pub record IsBytes (bs : List ℕ) : Type 0 where
   pub small : (i : ℕ) → slice_index bs i < 256
   pub formed : is_formed bs ≡ true
 
--- the bytes of a place have their length and form, and say the place
+-- a place that is written is read back
 pub record Written (x : Place) : Type 0 where
-  pub long : length (place_bytes x) ≡ 1544
-  pub formed : is_formed (place_bytes x) ≡ true
+  pub bytes : IsBytes (place_bytes x)
   pub back : place_of (place_bytes x) ≡ x
+
+-- bytes that are read are written back
+pub record Read (bs : List ℕ) : Type 0 where
+  pub place : IsPlace (place_of bs)
+  pub back : place_bytes (place_of bs) ≡ bs
