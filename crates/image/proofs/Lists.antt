@@ -24,5 +24,5 @@ module _ {F B : Type 0} (g : Mut F (ℕ × Unit {0}) B) (h : ℕ → B) (f : F) 
       let s = step k y q (subst (λ z. Called g z (k, tt) y q) e call) in
       made_from n (k + 1) q ys s.1 rest i j d (omega arith) (omega arith)
 
-  pub made : (n : ℕ) (ys : List B) → IsFromFnResult g f ys n → (i : ℕ) (d : B) → i < n → get_or ys i d ≡ h i
-  made n ys r i d l = made_from n 0 f ys refl r.each i i d (omega arith) l
+pub made : {F B : Type 0} {g : Mut F (ℕ × Unit {0}) B} {f : F} {ys : List B} {n : ℕ} → IsFromFnResult g f ys n → (h : ℕ → B) → ((i : ℕ) (y : B) (f' : F) → Called g f (i, tt) y f' → (y ≡ h i) × (f' ≡ f)) → (i : ℕ) (d : B) → i < n → get_or ys i d ≡ h i
+made {g = g} {f = f} {ys = ys} {n = n} r h step i d l = made_from g h f step n 0 f ys refl r.each i i d (omega arith) l

@@ -10,4 +10,4 @@ returns c =
     let bytes = c.args.bytes.now in
     let parts = c.as_chunks.result.0.now in
     all_read _ bytes _ parts _ (part_count bytes c.told-bytes) (after_head bytes c.told-bytes) c.as_chunks.ensures.front c.from_fn.ensures.items.long
-    (λ i l. made _ (λ k. amounts_of (get_or parts k [])) _ (λ k y f' h. search rules) 64 _ c.from_fn.ensures.items i none l)
+    (λ i l. made c.from_fn.ensures.items (λ k. amounts_of (get_or parts k [])) (λ k y f' h. search rules) i none l)
