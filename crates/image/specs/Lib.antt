@@ -1,0 +1,3 @@
+pub mod Places
+pub mod Faults
+pub mod Laws
