@@ -1,7 +1,8 @@
 -- What lifting comes to.
-use Rattle.std.proofs.Common.{◌≡◌, ℕ, ◌+◌, Bool, true, false, ◌||◌, length, Ok, Err, arith, sym, ◌∙◌, ap, subst}
+use Rattle.std.proofs.Common.{◌≡◌, ℕ, ◌<◌, ◌≤◌, ◌+◌, Bool, true, false, ◌||◌, length, Ok, Err, arith, sym, ◌∙◌, ap, subst}
 use Rattle.books.specs.declared.refusal.BookRefusal.{BookRefusal}
-use Rattle.books.specs.declared.refusal.BookRefusal.TheVariants.{NotReserved}
+use Rattle.books.specs.declared.refusal.BookRefusal.TheVariants.{OutOfRange, NotReserved}
+use Rattle.terms.specs.Limits.{last_day}
 use Rattle.books.specs.Places.{marked, blank}
 use Rattle.books.specs.Kept.{Kept, entry, holds, put, cut}
 use Rattle.books.specs.Calls.{lifting}
@@ -32,10 +33,20 @@ module _ (k : Kept) (d : ℕ) (b : Bool) (s : Sound k) where
   is_held : (lifting k d b).answer ≡ Ok tt → holds k d ≡ true
   is_held h = let r = reserved h in let t = held_taken d k.held s.each in grind arith
 
+  given : d ≤ last_day → (entry k d).reserved ≡ true → (lifting k d b).answer ≡ Ok tt
+  unfolding lifting
+  given l r = grind arith
+
+  outside : (lifting k d b).answer ≡ Err OutOfRange → last_day < d
+  unfolding lifting
+  outside h = grind arith
+
   pub lifts : Lifts k d b
   lifts = record {
     refused = refused;
     billed = λ h t. subst (Changed k d (marked (entry k d) false true)) (sym (put_after h t)) (put_changes k d _ (entry_day d k.held));
     freed = λ h t. let e = cut_after h t in (subst (Changed k d (blank d)) (sym e) (cut_changes k d s.rising), ap (λ l. length l.held + 1) e ∙ cut_held d k.held (is_held h));
     needed = needed;
+    given = given;
+    outside = outside;
   }

@@ -1,10 +1,11 @@
 -- What replacing comes to.
-use Rattle.std.proofs.Common.{◌≡◌, ◌⊎◌, ℕ, true, ◌<◌, ◌≤◌, Ok, Err, arith, sym, ◌∙◌, ap, subst, get_or, set, get_or-set_same, get_or-set_other, inl, inr}
+use Rattle.std.proofs.Common.{false, ◌≡◌, ◌⊎◌, ℕ, true, ◌<◌, ◌≤◌, Ok, Err, arith, sym, ◌∙◌, ap, subst, get_or, set, get_or-set_same, get_or-set_other, inl, inr}
 use Rattle.std.proofs.lemmas.Bool.{cases_eq}
 use Rattle.terms.specs.Limits.{last_day}
 use Rattle.amounts.specs.declared.row.Amounts.{Amounts}
 use Rattle.amounts.specs.Triples.{none}
 use Rattle.books.specs.declared.refusal.BookRefusal.{BookRefusal}
+use Rattle.books.specs.declared.refusal.BookRefusal.TheVariants.{OutOfRange, NotReserved}
 use Rattle.books.specs.Places.{replaced, in_range}
 use Rattle.books.specs.Kept.{Kept, entry, holds, put}
 use Rattle.books.specs.Calls.{account, reading, replacing}
@@ -76,5 +77,30 @@ module _ (k : Kept) (d q : ℕ) (a : Amounts) (s : Sound k) where
         | inr h ↦ ap (λ l. holds l e) h
       ]
 
+  places : (replacing k d q a).after.places ≡ k.places
+  unfolding replacing
+  places = grind arith
+
+  given : d ≤ last_day → q < 64 → in_range a ≡ true → (entry k d).reserved ≡ true → (replacing k d q a).answer ≡ Ok tt
+  unfolding replacing
+  given l m h r = grind arith
+
+  unreserved : (replacing k d q a).answer ≡ Err NotReserved → (entry k d).reserved ≡ false
+  unfolding replacing
+  unreserved h = grind arith
+
+  outside : (replacing k d q a).answer ≡ Err OutOfRange → (last_day < d) ⊎ ((64 ≤ q) ⊎ (in_range a ≡ false))
+  unfolding replacing
+  outside h = grind arith
+
   pub replaces : Replaces k d q a
-  replaces = record { refused = refused; there = there; elsewhere = elsewhere; same = same }
+  replaces = record {
+    refused = refused;
+    there = there;
+    elsewhere = elsewhere;
+    same = same;
+    places = places;
+    given = given;
+    unreserved = unreserved;
+    outside = outside;
+  }

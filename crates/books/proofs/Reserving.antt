@@ -7,7 +7,7 @@ use Rattle.books.specs.Places.{marked}
 use Rattle.books.specs.Kept.{Kept, entry, holds, put}
 use Rattle.books.specs.Calls.{reserving}
 use Rattle.books.specs.Laws.{Sound, Changed, Reserves}
-use Rattle.books.proofs.Entries.{put_changes, entry_day}
+use Rattle.books.proofs.Entries.{put_changes, entry_day, held_taken}
 
 module _ (k : Kept) (d : ℕ) (s : Sound k) where
   refused : (e : BookRefusal) → (reserving k d).answer ≡ Err e → (reserving k d).after ≡ k
@@ -34,6 +34,18 @@ module _ (k : Kept) (d : ℕ) (s : Sound k) where
   unfolding reserving
   after h = grind arith
 
+  again : d ≤ last_day → (entry k d).reserved ≡ true → (reserving k d).answer ≡ Err Reserved
+  unfolding reserving
+  again l h = grind arith
+
+  taken : d ≤ last_day → holds k d ≡ false → length k.held ≡ k.places → (reserving k d).answer ≡ Err Full
+  unfolding reserving
+  taken l h f = let t = held_taken d k.held s.each in grind arith
+
+  outside : last_day < d → (reserving k d).answer ≡ Err OutOfRange
+  unfolding reserving
+  outside l = grind arith
+
   pub reserves : Reserves k d
   reserves = record {
     refused = refused;
@@ -42,4 +54,7 @@ module _ (k : Kept) (d : ℕ) (s : Sound k) where
     twice = twice;
     full = full;
     given = given;
+    again = again;
+    taken = taken;
+    outside = outside;
   }

@@ -45,6 +45,9 @@ pub record Reserves (k : Kept) (d : ℕ) : Type 0 where
   pub twice : (reserving k d).answer ≡ Err Reserved → (entry k d).reserved ≡ true
   pub full : (reserving k d).answer ≡ Err Full → (holds k d ≡ false) × (length k.held ≡ k.places)
   pub given : d ≤ last_day → (entry k d).reserved ≡ false → (holds k d ≡ true) ⊎ (length k.held < k.places) → (reserving k d).answer ≡ Ok tt
+  pub again : d ≤ last_day → (entry k d).reserved ≡ true → (reserving k d).answer ≡ Err Reserved
+  pub taken : d ≤ last_day → holds k d ≡ false → length k.held ≡ k.places → (reserving k d).answer ≡ Err Full
+  pub outside : last_day < d → (reserving k d).answer ≡ Err OutOfRange
 
 -- READING, in words: a day that is not held has no mark and no amounts, and one that is has its own
 pub record Reads (k : Kept) (d q : ℕ) : Type 0 where
@@ -58,6 +61,10 @@ pub record Replaces (k : Kept) (d q : ℕ) (a : Amounts) : Type 0 where
   pub there : (replacing k d q a).answer ≡ Ok tt → reading (replacing k d q a).after d q ≡ Ok (record { reserved = true; billed = (entry k d).billed; amounts = a })
   pub elsewhere : (e r : ℕ) → ((e ≡ d) × (r ≡ q) → ⊥) → reading (replacing k d q a).after e r ≡ reading k e r
   pub same : (e : ℕ) → holds (replacing k d q a).after e ≡ holds k e
+  pub places : (replacing k d q a).after.places ≡ k.places
+  pub given : d ≤ last_day → q < 64 → in_range a ≡ true → (entry k d).reserved ≡ true → (replacing k d q a).answer ≡ Ok tt
+  pub unreserved : (replacing k d q a).answer ≡ Err NotReserved → (entry k d).reserved ≡ false
+  pub outside : (replacing k d q a).answer ≡ Err OutOfRange → (last_day < d) ⊎ ((64 ≤ q) ⊎ (in_range a ≡ false))
 
 -- LIFTING, in words: refused, it changes nothing; accepted, the day is reserved no more; as billed it is marked billed, as unbilled a day that
 -- was billed before stays as it is and one that never was gives its place back; and no other day changes
@@ -66,3 +73,5 @@ pub record Lifts (k : Kept) (d : ℕ) (as_billed : Bool) : Type 0 where
   pub billed : (lifting k d as_billed).answer ≡ Ok tt → (as_billed || (entry k d).billed) ≡ true → Changed k d (marked (entry k d) false true) (lifting k d as_billed).after
   pub freed : (lifting k d as_billed).answer ≡ Ok tt → (as_billed || (entry k d).billed) ≡ false → Changed k d (blank d) (lifting k d as_billed).after × (length (lifting k d as_billed).after.held + 1 ≡ length k.held)
   pub needed : (lifting k d as_billed).answer ≡ Err NotReserved → (entry k d).reserved ≡ false
+  pub given : d ≤ last_day → (entry k d).reserved ≡ true → (lifting k d as_billed).answer ≡ Ok tt
+  pub outside : (lifting k d as_billed).answer ≡ Err OutOfRange → last_day < d
