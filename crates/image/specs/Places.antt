@@ -10,9 +10,11 @@ use Rattle.books.specs.declared.place.Place.{Place}
 unfoldable pub word : ℤ → List ℕ
 word z = to_le_bytes w64 (cast_unsigned w64 z)
 
+-- each amount's bytes in a list of their own
 abbrev pub words : Amounts → List (List ℕ)
 words a = word a.reactive ∷ word a.held ∷ word a.load ∷ []
 
+-- three amounts, 24 bytes
 abbrev pub amounts_bytes : Amounts → List ℕ
 amounts_bytes a = word a.reactive ++ (word a.held ++ word a.load)
 
@@ -49,7 +51,7 @@ place_of bs = record {
   amounts = all_amounts bs;
 }
 
--- the mark is at most 3
+-- the mark is at most 3: it says nothing but reserved and billed
 abbrev pub is_marked : List ℕ → Bool
 is_marked bs = nat_le (slice_index bs 0) 3
 

@@ -6,9 +6,10 @@ use amounts::row::Amounts;
 use books::place::Place;
 use terms::question::ENTITIES;
 
+// Eight for the head, and 24 for each entity's amounts.
 pub const PLACE_BYTES: usize = 1544;
 
-// An amount has eight bytes, two's complement.
+// Each amount is a word of eight bytes, two's complement.
 #[tactic(auto, unfolding(crate::specs::Places::word))]
 fn words_of(amounts: Amounts) -> [[u8; 8]; 3]
     ensures { result ≡ words amounts }
@@ -20,6 +21,7 @@ fn words_of(amounts: Amounts) -> [[u8; 8]; 3]
     ]
 }
 
+// The words of every entity's amounts.
 fn all_words(amounts: [Amounts; ENTITIES]) -> [[[u8; 8]; 3]; ENTITIES]
     ensures { result ≡ map words amounts }
 {
@@ -33,6 +35,7 @@ fn mark_of(place: &Place) -> u8
     u8::from(place.reserved) + 2 * u8::from(place.billed)
 }
 
+// The mark, a zero byte, the day and four zero bytes.
 fn head_of(place: &Place) -> [u8; 8]
     ensures { result ≡ head_bytes place.now }
 {
