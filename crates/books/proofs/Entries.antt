@@ -1,9 +1,9 @@
 -- What putting a day and cutting one do to what is kept of each day.
-use Rattle.std.proofs.Common.{◌≡◌, ℕ, zero, suc, ◌+◌, Bool, true, false, ◌<◌, ◌≤◌, List, [], ◌∷◌, length, refl, arith, nat_lt, ◌==◌, ltb-true, subst, ◌∙◌}
+use Rattle.std.proofs.Common.{◌≡◌, ℕ, zero, suc, ◌+◌, true, false, ◌<◌, ◌≤◌, List, [], ◌∷◌, length, refl, arith, nat_lt, ◌==◌, ltb-true, subst, ◌∙◌}
 use Rattle.std.proofs.lemmas.Bool.{cond_both}
 use Rattle.books.specs.declared.place.Place.{Place}
 use Rattle.std.specs.List.{AllByRecursion}
-use Rattle.books.specs.Places.{blank, free, at, is_taken}
+use Rattle.books.specs.Places.{blank, at, is_taken}
 use Rattle.books.specs.Kept.{Kept, entry_in, holds_in, put_in, cut_in, put, cut}
 use Rattle.books.specs.Laws.{Rising, SoundPlace, Changed}
 

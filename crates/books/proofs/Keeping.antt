@@ -1,17 +1,16 @@
 -- No call makes of what a book keeps what it cannot keep.
-use Rattle.std.proofs.Common.{◌≡◌, ◌⊎◌, ℕ, zero, suc, List, [], ◌∷◌, ◌∙◌, Bool, true, false, ◌||◌, ◌<◌, ◌≤◌, length, Ok, Err, arith, sym, subst, refl, get_or, set, inl, inr, length-set}
-use Rattle.std.proofs.lemmas.Bool.{cases_eq}
+use Rattle.std.proofs.Common.{◌≡◌, ◌⊎◌, ℕ, zero, suc, List, [], ◌∷◌, ◌∙◌, Bool, true, false, ◌||◌, ◌<◌, ◌≤◌, length, arith, sym, subst, refl, get_or, set, inl, inr, length-set}
 use Rattle.terms.specs.Limits.{last_day}
 use Rattle.amounts.specs.declared.row.Amounts.{Amounts}
 use Rattle.amounts.specs.Triples.{none}
 use Rattle.books.specs.declared.place.Place.{Place}
 use Rattle.books.specs.Places.{marked, replaced, in_range}
 use Rattle.std.specs.List.{AllByRecursion}
-use Rattle.books.specs.Kept.{Kept, entry_in, entry, holds, put, cut, put_in, cut_in}
+use Rattle.books.specs.Kept.{Kept, entry_in, entry, holds, put, cut}
 use Rattle.books.specs.Calls.{reserving, replacing, lifting}
 use Rattle.books.specs.Laws.{Sound, SoundPlace}
 use Rattle.books.proofs.Entries.{entry_day, held_taken, put_held, put_new, cut_held}
-use Rattle.books.proofs.Sounds.{Amounted, entry_amounted, put_sound, cut_sound}
+use Rattle.books.proofs.Sounds.{entry_amounted, put_sound, cut_sound}
 
 -- a day of which something is kept, with other marks
 pub marked_in : (d : ℕ) (xs : List Place) (r b : Bool) → AllByRecursion SoundPlace xs → d ≤ last_day → (r || b) ≡ true → SoundPlace (marked (entry_in d xs) r b)

@@ -1,8 +1,8 @@
 -- What lifting comes to.
-use Rattle.std.proofs.Common.{◌≡◌, ℕ, ◌+◌, Bool, true, false, ◌||◌, length, Ok, Err, arith, sym, ◌∙◌, ap, subst, refl}
+use Rattle.std.proofs.Common.{◌≡◌, ℕ, ◌+◌, Bool, true, false, ◌||◌, length, Ok, Err, arith, sym, ◌∙◌, ap, subst}
 use Rattle.books.specs.declared.refusal.BookRefusal.{BookRefusal}
 use Rattle.books.specs.declared.refusal.BookRefusal.TheVariants.{NotReserved}
-use Rattle.books.specs.Places.{marked, blank, is_taken}
+use Rattle.books.specs.Places.{marked, blank}
 use Rattle.books.specs.Kept.{Kept, entry, holds, put, cut}
 use Rattle.books.specs.Calls.{lifting}
 use Rattle.books.specs.Laws.{Sound, Changed, Lifts}

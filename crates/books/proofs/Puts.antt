@@ -1,12 +1,11 @@
 -- Putting a day among the places in use, and cutting one.
-use Rattle.std.proofs.Common.{◌≡◌, ℕ, zero, suc, ◌+◌, ◌-◌, Bool, true, false, cond, nat_lt, ◌==◌, ◌<◌, ◌≤◌, List, length, take, set, sym, subst, inl, inr, ◌∙◌, ap, arith, refl, get_or-take, length-take-le, length-set}
+use Rattle.std.proofs.Common.{◌≡◌, ℕ, ◌+◌, ◌-◌, true, false, ◌<◌, ◌≤◌, List, length, take, set, sym, subst, inl, inr, ◌∙◌, arith, get_or-take, length-take-le, length-set}
 use Rattle.std.proofs.lemmas.Bool.{cases_order, cases_lt}
 use Rattle.std.proofs.lemmas.List.{ext_get_or}
 use Rattle.books.specs.declared.place.Place.{Place}
 use Rattle.books.specs.declared.seats.Seat.{Seat}
 use Rattle.books.specs.Places.{at, free}
 use Rattle.books.specs.Kept.{holds_in, put_in, cut_in}
-use Rattle.books.specs.Laws.{Rising}
 use Rattle.books.specs.Tests.{rises, is_sound, all_sound}
 use Rattle.books.specs.Stores.{Opened, Closed}
 use Rattle.books.specs.Seats.{before, SeatOf}

@@ -1,11 +1,9 @@
 -- What reading comes to.
-use Rattle.std.proofs.Common.{◌≡◌, ◌⊎◌, ℕ, Bool, true, false, ◌||◌, ◌<◌, ◌≤◌, length, Ok, Err, arith, sym, ◌∙◌, ap, refl, get_or}
+use Rattle.std.proofs.Common.{◌≡◌, ◌⊎◌, ℕ, false, ◌<◌, ◌≤◌, Ok, Err, arith, ◌∙◌, ap}
 use Rattle.terms.specs.Limits.{last_day}
-use Rattle.amounts.specs.Triples.{none}
 use Rattle.books.specs.declared.refusal.BookRefusal.TheVariants.{OutOfRange}
-use Rattle.books.specs.declared.place.Place.{Place}
-use Rattle.books.specs.Places.{blank, at}
-use Rattle.books.specs.Kept.{Kept, entry, holds}
+use Rattle.books.specs.Places.{at}
+use Rattle.books.specs.Kept.{Kept, entry}
 use Rattle.books.specs.Calls.{account, reading}
 use Rattle.books.specs.Laws.{Sound, SoundPlace, Reads}
 use Rattle.books.proofs.Entries.{absent_blank, found, all_at}

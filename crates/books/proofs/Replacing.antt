@@ -1,12 +1,11 @@
 -- What replacing comes to.
-use Rattle.std.proofs.Common.{◌≡◌, ◌⊎◌, ℕ, Bool, true, false, ◌<◌, ◌≤◌, length, Ok, Err, Result, arith, sym, ◌∙◌, ap, subst, refl, get_or, set, get_or-set_same, get_or-set_other, inl, inr}
+use Rattle.std.proofs.Common.{◌≡◌, ◌⊎◌, ℕ, true, ◌<◌, ◌≤◌, Ok, Err, arith, sym, ◌∙◌, ap, subst, get_or, set, get_or-set_same, get_or-set_other, inl, inr}
 use Rattle.std.proofs.lemmas.Bool.{cases_eq}
 use Rattle.terms.specs.Limits.{last_day}
 use Rattle.amounts.specs.declared.row.Amounts.{Amounts}
 use Rattle.amounts.specs.Triples.{none}
 use Rattle.books.specs.declared.refusal.BookRefusal.{BookRefusal}
-use Rattle.books.specs.declared.place.Place.{Place}
-use Rattle.books.specs.Places.{replaced, is_taken, in_range}
+use Rattle.books.specs.Places.{replaced, in_range}
 use Rattle.books.specs.Kept.{Kept, entry, holds, put}
 use Rattle.books.specs.Calls.{account, reading, replacing}
 use Rattle.books.specs.Laws.{Sound, Changed, Replaces}

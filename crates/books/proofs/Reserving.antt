@@ -1,8 +1,8 @@
 -- What reserving comes to.
-use Rattle.std.proofs.Common.{◌≡◌, ◌⊎◌, ℕ, Bool, true, false, ◌<◌, ◌≤◌, length, Ok, Err, arith, sym, subst}
+use Rattle.std.proofs.Common.{◌≡◌, ◌⊎◌, ℕ, true, false, ◌<◌, ◌≤◌, length, Ok, Err, arith, sym, subst}
 use Rattle.terms.specs.Limits.{last_day}
 use Rattle.books.specs.declared.refusal.BookRefusal.{BookRefusal}
-use Rattle.books.specs.declared.refusal.BookRefusal.TheVariants.{OutOfRange, Reserved, Full, NotReserved}
+use Rattle.books.specs.declared.refusal.BookRefusal.TheVariants.{OutOfRange, Reserved, Full}
 use Rattle.books.specs.Places.{marked}
 use Rattle.books.specs.Kept.{Kept, entry, holds, put}
 use Rattle.books.specs.Calls.{reserving}

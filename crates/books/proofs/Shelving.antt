@@ -1,11 +1,11 @@
 -- What the calls of a book on a store ask of its parts.
-use Rattle.std.proofs.Common.{◌≡◌, ℕ, Bool, true, false, ◌||◌, ◌≤◌, List, sym, subst, ap, ◌∙◌, arith}
+use Rattle.std.proofs.Common.{◌≡◌, ℕ, Bool, true, ◌||◌, ◌≤◌, List, sym, subst, ap, ◌∙◌, arith}
 use Rattle.terms.specs.Limits.{last_day}
 use Rattle.amounts.specs.declared.row.Amounts.{Amounts}
 use Rattle.books.specs.declared.place.Place.{Place}
 use Rattle.books.specs.declared.seats.Seat.{Seat}
-use Rattle.books.specs.Places.{marked, replaced, is_taken, in_range}
-use Rattle.books.specs.Kept.{entry_in, holds_in}
+use Rattle.books.specs.Places.{marked, replaced, in_range}
+use Rattle.books.specs.Kept.{entry_in}
 use Rattle.books.specs.Tests.{is_sound, all_sound}
 use Rattle.books.specs.Seats.{SeatOf}
 use Rattle.books.specs.ShelvesKept.{each_by}

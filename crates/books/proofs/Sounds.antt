@@ -1,16 +1,14 @@
 -- What is kept stays what a book can keep.
-use Rattle.std.proofs.Common.{◌≡◌, ℕ, zero, suc, ◌+◌, Bool, true, false, ◌<◌, ◌≤◌, List, [], ◌∷◌, length, refl, arith, rules, nat_lt, ◌==◌, ltb-true, get_or, slice_set}
+use Rattle.std.proofs.Common.{◌≡◌, ℕ, zero, suc, true, ◌<◌, ◌≤◌, List, [], ◌∷◌, length, refl, nat_lt, ◌==◌, get_or}
 use Rattle.std.proofs.lemmas.Bool.{cond_both}
 use Rattle.std.proofs.Math.ListN.{replicate}
 use Rattle.std.specs.List.{AllByRecursion}
-use Rattle.terms.specs.Limits.{last_day}
 use Rattle.amounts.specs.Triples.{none}
-use Rattle.amounts.specs.declared.row.Amounts.{Amounts}
 use Rattle.books.specs.declared.place.Place.{Place}
-use Rattle.books.specs.Places.{blank, zeros, marked, replaced, is_taken, in_range}
-use Rattle.books.specs.Kept.{Kept, entry_in, holds_in, put_in, cut_in, put, cut}
+use Rattle.books.specs.Places.{blank, zeros, in_range}
+use Rattle.books.specs.Kept.{Kept, entry_in, put_in, cut_in, put, cut}
 use Rattle.books.specs.Laws.{Rising, SoundPlace, Sound}
-use Rattle.books.proofs.Entries.{above_blank, below, put_rises, put_held, put_new, cut_held}
+use Rattle.books.proofs.Entries.{put_rises}
 
 -- the amounts of an entity are as many as there are entities, and in their range
 pub record Amounted (x : Place) : Type 0 where

@@ -1,14 +1,12 @@
 -- The tests say what the facts say.
-use Rattle.std.proofs.Common.{◌≡◌, ℕ, zero, suc, Bool, true, ◌<◌, ◌≤◌, List, [], ◌∷◌, length, arith, refl, get_or, nat_lt}
+use Rattle.std.proofs.Common.{◌≡◌, ℕ, suc, true, ◌<◌, List, [], ◌∷◌, arith, refl, get_or}
 use Rattle.std.specs.List.{AllByRecursion}
-use Rattle.terms.specs.Limits.{last_day}
 use Rattle.amounts.specs.declared.row.Amounts.{Amounts}
 use Rattle.amounts.specs.Triples.{none}
 use Rattle.books.specs.declared.place.Place.{Place}
-use Rattle.books.specs.Places.{is_taken, in_range}
+use Rattle.books.specs.Places.{in_range}
 use Rattle.books.specs.Laws.{Rising, SoundPlace}
 use Rattle.books.specs.Tests.{rises_from, rises, all_ranged, is_sound, all_sound}
-use Rattle.books.proofs.Entries.{below}
 
 to_rises : (d : ℕ) (xs : List Place) → AllByRecursion (λ y. d < y.day) xs → Rising xs → rises_from d xs ≡ true
 unfolding rises_from

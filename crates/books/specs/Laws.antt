@@ -7,7 +7,7 @@ use Rattle.amounts.specs.Triples.{none}
 use Rattle.books.specs.declared.place.Place.{Place}
 use Rattle.books.specs.declared.refusal.BookRefusal.{BookRefusal}
 use Rattle.books.specs.declared.refusal.BookRefusal.TheVariants.{OutOfRange, Reserved, Full, NotReserved}
-use Rattle.books.specs.Places.{blank, free, at, is_taken, marked, in_range}
+use Rattle.books.specs.Places.{blank, at, is_taken, marked, in_range}
 use Rattle.books.specs.Kept.{Kept, entry, holds}
 use Rattle.books.specs.Calls.{account, reserving, reading, replacing, lifting}
 

@@ -7,4 +7,6 @@ pub mod Tests
 pub mod Stores
 pub mod Seats
 pub mod Lifts
+pub mod Lists
 pub mod ShelvesKept
+pub mod RecordsKept

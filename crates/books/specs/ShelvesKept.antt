@@ -1,14 +1,12 @@
 -- What a book on a store keeps is sound, and its places are those of its meaning. Assumes nothing.
-use Rattle.std.proofs.Common.{◌≡◌, ℕ, zero, suc, ◌-◌, Bool, true, ◌<◌, ◌≤◌, List, [], ◌∷◌, ◌++◌, length, take, drop, arith, refl, get_or, nat_lt, sym, ◌∙◌, ap, ◌+◌, length-take-le}
+use Rattle.std.proofs.Common.{◌≡◌, ℕ, zero, suc, ◌-◌, true, ◌<◌, ◌≤◌, List, [], ◌∷◌, ◌++◌, length, take, drop, arith, refl, get_or, sym, ◌∙◌, ap, ◌+◌, length-take-le}
 use Rattle.std.proofs.lemmas.List.{take-append-drop, length-drop, get_or-drop}
 use Rattle.std.specs.List.{AllByRecursion}
 use Rattle.std.proofs.Math.ListN.{replicate}
-use Rattle.terms.specs.Limits.{last_day}
 use Rattle.amounts.specs.declared.row.Amounts.{Amounts}
 use Rattle.amounts.specs.Triples.{none}
 use Rattle.books.specs.declared.place.Place.{Place}
-use Rattle.books.specs.Places.{free, at, is_taken, in_range}
-use Rattle.books.specs.Kept.{Kept}
+use Rattle.books.specs.Places.{free, at, in_range}
 use Rattle.books.specs.Laws.{Rising, SoundPlace, Sound}
 use Rattle.books.specs.Tests.{rises_from, rises, all_ranged, is_sound, all_sound}
 use Rattle.books.specs.Stores.{joined, kept_of, laid}
@@ -46,7 +44,7 @@ each_by (x ∷ xs) h = (place_by x (grind arith), each_by xs (grind arith))
 pub sound_of : (xs : List Place) (u : ℕ) → length xs ≤ 32 → u ≤ length xs → rises (take u xs) ≡ true → all_sound (take u xs) ≡ true → Sound (kept_of xs u)
 sound_of xs u f w r e = record { few = f; fits = rw (length-take-le u xs w) w; rising = rising_by (take u xs) r; each = each_by (take u xs) e }
 
-all_free : (xs : List Place) → ((q : ℕ) → at xs q ≡ free) → xs ≡ replicate (length xs) free
+pub all_free : (xs : List Place) → ((q : ℕ) → at xs q ≡ free) → xs ≡ replicate (length xs) free
 all_free [] f = refl
 all_free (x ∷ xs) f = let h = f 0 in let g = all_free xs (λ q. f (suc q)) in cc
 

@@ -7,6 +7,7 @@ pub mod calls;
 pub mod laws;
 mod moves;
 pub mod place;
+pub mod records;
 pub mod refusal;
 mod seats;
 mod settling;

@@ -1,5 +1,6 @@
 // Making room among places, and closing a gap.
 ghost use Rattle.std.specs.Prelude.{◌≡◌, ◌+◌, ◌≤◌, ◌<◌, length};
+ghost use Rattle.std.proofs.Math.ListN.{replicate};
 ghost use Rattle.books.specs.Places.{free};
 ghost use Rattle.books.specs.Stores.{Opened, Closed};
 
@@ -33,4 +34,14 @@ pub(crate) fn close_gap<S: Store>(store: &mut S, i: usize, used: usize)
         store.put(j - 1, place);
     }
     store.put(used - 1, Place::blank(0));
+}
+
+// Frees all places.
+pub(crate) fn clear<S: Store>(store: &mut S)
+    ensures slots { S.Store.slots store.new ≡ replicate (length (S.Store.slots store.old)) free }
+    ensures beside { S.Store.beside store.new ≡ S.Store.beside store.old }
+{
+    for i in 0..store.count() {
+        store.put(i, Place::blank(0));
+    }
 }

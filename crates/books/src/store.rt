@@ -37,8 +37,6 @@ pub trait Store {
 
     ghost few: { (s : Self) → length (slots s) ≤ 32 };
 
-    ghost long: { (s : Self) (i : ℕ) → i < length (slots s) → length (at (slots s) i).amounts ≡ 64 };
-
     // The places are written one after the other, and nothing else is stored but what is beside them.
     ghost pinned: { (s : Self) → stored s ≡ joined written (slots s) ++ beside s };
 }

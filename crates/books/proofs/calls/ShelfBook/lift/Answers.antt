@@ -1,4 +1,4 @@
-use Rattle.std.proofs.Common.{◌≡◌, ◌≤◌, take, true, false, arith, refl, sym, ◌∙◌, rules}
+use Rattle.std.proofs.Common.{◌≡◌, ◌≤◌, take, true, false, arith, refl, rules}
 use Rattle.terms.specs.Limits.{last_day}
 use Rattle.books.specs.Calls.{lifting}
 use Rattle.books.proofs.Shelving.{seat_own, seat_marked, seat_held, seat_day}

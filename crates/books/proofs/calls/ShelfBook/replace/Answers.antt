@@ -1,4 +1,4 @@
-use Rattle.std.proofs.Common.{◌≡◌, ◌≤◌, take, true, false, arith, refl, sym, ◌∙◌, rules}
+use Rattle.std.proofs.Common.{◌≡◌, ◌≤◌, take, true, arith, rules}
 use Rattle.terms.specs.Limits.{last_day}
 use Rattle.books.specs.Places.{in_range}
 use Rattle.books.proofs.Shelving.{seat_own, seat_replaced, seat_held}

@@ -1,4 +1,4 @@
-use Rattle.std.proofs.Common.{◌≤◌, take, true, arith, refl, rules}
+use Rattle.std.proofs.Common.{◌≤◌, take, true, arith, refl}
 use Rattle.terms.specs.Limits.{last_day}
 use Rattle.books.proofs.Shelving.{seat_own, seat_marked}
 use Rattle.books.proofs.calls.ShelfBook.reserve.Goals as goal

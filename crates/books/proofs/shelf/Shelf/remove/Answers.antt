@@ -1,4 +1,4 @@
-use Rattle.std.proofs.Common.{◌≡◌, ◌-◌, ◌<◌, true, length, take, arith, sym, ◌∙◌, refl}
+use Rattle.std.proofs.Common.{◌≡◌, true, take, arith, sym, ◌∙◌, refl}
 use Rattle.books.specs.Kept.{holds_in}
 use Rattle.books.proofs.Puts.{cut_rising, cut_all, take_cut, free_cut, seat_below}
 use Rattle.books.proofs.shelf.Shelf.remove.Goals as goal

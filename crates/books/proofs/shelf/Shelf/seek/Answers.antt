@@ -1,5 +1,4 @@
-use Rattle.std.proofs.Common.{◌≡◌, ◌<◌, arith, ◌∙◌, ap, sym, take, drop}
-use Rattle.books.specs.Places.{at}
+use Rattle.std.proofs.Common.{arith, take}
 use Rattle.books.proofs.Seating.{left, passed_more, seat_here}
 use Rattle.books.proofs.shelf.Shelf.seek.Goals as goal
 

@@ -1,5 +1,5 @@
-use Rattle.std.proofs.Common.{◌≡◌, ◌+◌, ◌<◌, true, false, length, take, set, arith, sym, ◌∙◌, ap, refl, length-set}
-use Rattle.books.specs.Kept.{put_in, holds_in}
+use Rattle.std.proofs.Common.{◌≡◌, true, false, take, arith, sym, ◌∙◌, refl, length-set}
+use Rattle.books.specs.Kept.{holds_in}
 use Rattle.books.proofs.Puts.{put_rising, put_all, take_held, take_new, free_held, free_new, seat_within, seat_below}
 use Rattle.books.proofs.shelf.Shelf.settle.Goals as goal
 
