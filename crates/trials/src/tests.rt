@@ -1,5 +1,6 @@
 // What the trials share: records and questions in one line each.
 mod asks;
+mod books;
 mod checks;
 mod days;
 mod determinants;
