@@ -1,11 +1,10 @@
 -- Places that move by one.
-use Rattle.std.proofs.Common.{◌≡◌, ℕ, zero, suc, ◌+◌, ◌-◌, ◌<◌, ◌≤◌, List, length, refl, arith, cond, ◌==◌, set, ◌∙◌, ap, inl, inr, get_or-set_same, get_or-set_other, length-set}
+use Rattle.std.proofs.Common.{◌≡◌, ℕ, zero, suc, ◌+◌, ◌<◌, ◌≤◌, List, length, refl, arith, cond, ◌==◌, set, ◌∙◌, ap, inl, inr, get_or-set_same, get_or-set_other}
 use Rattle.std.proofs.lemmas.Bool.{cases_eq, cases_lt}
 use Rattle.std.proofs.lemmas.List.{get_or_past}
 use Rattle.std.proofs.Math.ListN.{replicate}
 use Rattle.books.specs.declared.place.Place.{Place}
 use Rattle.books.specs.Places.{free, at}
-use Rattle.books.specs.Stores.{Opened}
 use Rattle.books.specs.ShelvesKept.{all_free}
 
 -- at is what a place is after one is written
@@ -15,28 +14,6 @@ set_at xs j q c l =
       | inl e ↦ (let h = get_or-set_same xs j c free l in grind arith)
       | inr n ↦ (let h = get_or-set_other xs j q c free n in grind arith)
     ]
-
-pub open_start : (xs : List Place) (i : ℕ) (y : Place) → Opened xs xs i i y
-open_start xs i y = record {
-  long = refl;
-  below = λ q l. refl;
-  there = λ l. absurd (omega (arith, l));
-  moved = λ q l m. absurd (omega (arith, l, m));
-  above = λ q l. refl;
-}
-
-module _ (old new : List Place) (i j : ℕ) (y c : Place) where
-  pub open_more : Opened old new i j y → c ≡ cond (j == i) y (at old (j - 1)) → i ≤ j → j < length old → Opened old (set new j c) i (j + 1) y
-  open_more o e l m = record {
-    long = length-set new j c ∙ o.long;
-    below = λ q k. let h = o.below q k in let s = set_at new j q c inside in grind arith;
-    there = λ k. let h = o.there in let s = set_at new j i c inside in grind arith;
-    moved = λ q k n. let h = o.moved q k in let s = set_at new j (q + 1) c inside in grind arith;
-    above = λ q k. let h = o.above q in let s = set_at new j q c inside in grind arith;
-  }
-    where
-      inside : j < length new
-      inside = rw o.long m
 
 -- places while those behind i move down by one: so far those before j have
 pub record Closing (old new : List Place) (i j : ℕ) : Type 0 where

@@ -2,7 +2,7 @@
 use Rattle.std.proofs.Common.{◌≡◌, ℕ, zero, suc, ◌+◌, ◌-◌, true, false, cond, nat_lt, ◌==◌, ◌<◌, ◌≤◌, List, [], ◌∷◌, length, take, drop, arith, refl, get_or-take, length-take-le}
 use Rattle.std.proofs.lemmas.List.{drop_more}
 use Rattle.books.specs.declared.place.Place.{Place}
-use Rattle.books.specs.Places.{at, free, blank}
+use Rattle.books.specs.Places.{at, free}
 use Rattle.books.specs.Kept.{entry_in, holds_in, put_in, cut_in}
 use Rattle.books.specs.Seats.{before, SeatOf}
 
@@ -25,22 +25,6 @@ module _ (d : ℕ) (xs : List Place) (i : ℕ) (x : Place) (next : drop i xs ≡
 
   pub seat_here : x.day ≡ d → SeatOf d xs (record { index = i; is_held = true; place = x })
   seat_here e = let a = p.index in let b = p.held in let c = p.place in record { index = grind arith; held = grind arith; place = grind arith }
-
-  pub seat_none : d < x.day → SeatOf d xs (record { index = i; is_held = false; place = blank d })
-  seat_none l = let a = p.index in let b = p.held in let c = p.place in record { index = grind arith; held = grind arith; place = grind arith }
-
--- no day is left
-drop_all : (xs : List Place) (u : ℕ) → drop u (take u xs) ≡ []
-drop_all [] zero = refl
-drop_all [] (suc u) = refl
-drop_all (x ∷ xs) zero = refl
-drop_all (x ∷ xs) (suc u) = drop_all xs u
-
-pub seat_past : (d : ℕ) (xs : List Place) (u : ℕ) → Passed d (take u xs) u → SeatOf d (take u xs) (record { index = u; is_held = false; place = blank d })
-seat_past d xs u p =
-    let e = drop_all xs u in
-    let a = p.index in let b = p.held in let c = p.place in
-    record { index = grind arith; held = grind arith; place = grind arith }
 
 -- what stands at each place after a day is put or cut
 pub put_at_held : (y : Place) (xs : List Place) (q : ℕ) → holds_in y.day xs ≡ true → at (put_in y xs) q ≡ cond (q == before y.day xs) y (at xs q)
