@@ -6,9 +6,9 @@ ghost use Rattle.books.specs.Refusals.{number_of};
 pub enum BookRefusal {
     // A day, an entity or an amount lies outside its range.
     OutOfRange,
-    // The day to be reserved is reserved.
+    // The day is reserved already.
     Reserved,
-    // The day to be reserved is not held, and every place is taken.
+    // No place is left for a day that is not held yet.
     Full,
     // The day is not reserved.
     NotReserved,
