@@ -1,12 +1,12 @@
 // What the trials share: records and questions in one line each.
 mod asks;
-mod books;
 mod checks;
 mod days;
 mod determinants;
 mod fields;
 mod fills;
 mod judging;
+mod keeping;
 mod lines;
 mod notations;
 mod questions;
