@@ -1,7 +1,7 @@
 -- What a book means. Assumes nothing.
-use Rattle.std.specs.Prelude.{ℕ, Bool, false, cond, List, [], ◌∷◌, ◌==◌, nat_lt}
+use Rattle.std.specs.Prelude.{ℕ, Bool, false, cond, List, [], ◌∷◌, ◌==◌, length, nat_lt, Some, None, Option}
 use Rattle.books.specs.declared.place.Place.{Place}
-use Rattle.books.specs.Places.{blank}
+use Rattle.books.specs.Places.{blank, at}
 
 -- how many places there are, and what is kept of the held days, which stand ascending
 pub record Kept : Type 0 where
@@ -38,3 +38,7 @@ put k y = record { places = k.places; held = put_in y k.held }
 
 abbrev pub cut : Kept → ℕ → Kept
 cut k d = record { places = k.places; held = cut_in d k.held }
+
+-- the held day at an index, from the lowest on
+abbrev pub held_at : Kept → ℕ → Option Place
+held_at k i = cond (nat_lt i (length k.held)) (Some (at k.held i)) None

@@ -8,5 +8,6 @@ pub mod Stores
 pub mod Seats
 pub mod Lifts
 pub mod Lists
+pub mod Surveys
 pub mod ShelvesKept
 pub mod RecordsKept

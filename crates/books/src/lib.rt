@@ -4,8 +4,11 @@
 pub mod account;
 pub mod book;
 pub mod calls;
+pub mod flaw;
+pub mod held;
 pub mod laws;
 mod moves;
+pub mod opening;
 pub mod place;
 pub mod records;
 pub mod refusal;
@@ -13,3 +16,4 @@ mod seats;
 mod settling;
 pub mod shelf;
 pub mod store;
+mod survey;

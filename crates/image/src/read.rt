@@ -38,7 +38,7 @@ fn is_filled(bytes: &[u8; PLACE_BYTES]) -> bool
 
 // What the bytes say, whatever their form.
 #[tactic(auto, unfolding(crate::specs::Places::place_of))]
-fn place_of(bytes: &[u8; PLACE_BYTES]) -> Place
+pub fn place_of(bytes: &[u8; PLACE_BYTES]) -> Place
     ensures { result ≡ place_of bytes.now }
 {
     Place {
