@@ -1,0 +1,4 @@
+pub mod Chunks
+pub mod Placing
+pub mod Forming
+pub mod Meaning
