@@ -20,11 +20,11 @@ over a k xs ys = take a xs ++ (ys ++ drop (a + k) xs)
 unfoldable pub places_in : ℕ → List ℕ → List Place
 places_in n bs = map place_of (first_chunks 1544 n bs)
 
-abbrev surveyed_as : Result ℕ Flaw → Result ℕ ImageFault
+abbrev pub surveyed_as : Result ℕ Flaw → Result ℕ ImageFault
 surveyed_as (Ok u) = Ok u
 surveyed_as (Err f) = Err (Places f)
 
-abbrev read_by : Result ℕ ImageFault → List ℕ → Result ℕ ImageFault
+abbrev pub read_by : Result ℕ ImageFault → List ℕ → Result ℕ ImageFault
 read_by (Ok n) bs = surveyed_as (surveyed (places_in n bs))
 read_by (Err e) bs = Err e
 
@@ -32,7 +32,7 @@ read_by (Err e) bs = Err e
 unfoldable pub image_read : List ℕ → Result ℕ ImageFault
 image_read bs = read_by (form_of bs) bs
 
-abbrev opened_by : Result ℕ ImageFault → List ℕ → Kept
+abbrev pub opened_by : Result ℕ ImageFault → List ℕ → Kept
 opened_by (Ok u) bs = kept_of (places_in (length bs / 1544) bs) u
 opened_by (Err e) bs = new_kept 0
 

@@ -46,7 +46,7 @@ exact (suc n) bs l s f =
     let b : IsBytes (take 1544 bs) = record { long = length-take-le 1544 bs (omega (arith, l)); small = small_take 1544 bs s; formed = and_first _ _ f } in
     ((read (take 1544 bs) b).back, exact n (drop 1544 bs) (omega (arith, l, length-drop 1544 bs)) (small_drop 1544 bs s) (and_second _ _ f))
 
-front : (n : ℕ) (bs : List ℕ) → 1544 * n ≤ length bs → Small bs → all_formed (first_chunks 1544 n bs) ≡ true → joined place_bytes (places_in n bs) ≡ take (1544 * n) bs
+pub front : (n : ℕ) (bs : List ℕ) → 1544 * n ≤ length bs → Small bs → all_formed (first_chunks 1544 n bs) ≡ true → joined place_bytes (places_in n bs) ≡ take (1544 * n) bs
 unfolding places_in
 front n bs l s f = rejoined place_bytes place_of 1544 n bs (exact n bs l s f)
 

@@ -10,5 +10,6 @@ ghost use Rattle.imagebook.specs.Images.{image_read, opened, image_of, Imaged};
 pub fn image_law()
     ensures imaged { (k : Kept) → Sound k → Imaged k }
     ensures read { (bs : List ℕ) (u : ℕ) → ((i : ℕ) → slice_index bs i < 256) → image_read bs ≡ Ok u → Sound (opened bs) × (image_of (opened bs) ≡ bs) }
-    ensures cleared { (n : ℕ) → n ≤ 32 → image_of (new_kept n) ≡ replicate (1544 * n) 0 }
+    ensures cleared { (n : ℕ) → image_of (new_kept n) ≡ replicate (1544 * n) 0 }
+    ensures new { (n : ℕ) → n ≤ 32 → opened (replicate (1544 * n) 0) ≡ new_kept n }
 {}
