@@ -1,10 +1,9 @@
 -- The form of places, looked at one by one.
-use Rattle.std.proofs.Common.{◌≡◌, ℕ, zero, suc, ◌+◌, ◌/◌, ◌%◌, ◌<◌, ◌≤◌, List, [], ◌∷◌, length, get_or, drop, arith, refl, sym, ap, ◌∙◌, Some, None, Ok, Err, Option}
+use Rattle.std.proofs.Common.{◌≡◌, ℕ, ◌+◌, ◌/◌, ◌%◌, ◌<◌, ◌≤◌, List, [], length, get_or, drop, arith, Some, None, Ok, Err}
 use Rattle.std.proofs.lemmas.List.{drop_more, drop_all}
 use Rattle.books.specs.declared.place.Place.{Place}
 use Rattle.image.specs.declared.fault.PlaceFault.{PlaceFault}
 use Rattle.image.specs.Faults.{place_read}
-use Rattle.imagebook.specs.declared.fault.ImageFault.{ImageFault}
 use Rattle.imagebook.specs.declared.fault.ImageFault.TheVariants.{Ragged, TooMany, Form}
 use Rattle.imagebook.specs.Forms.{pieces, misformed, formed_by, form_of}
 

@@ -1,7 +1,7 @@
 -- The image of what a book keeps, read.
-use Rattle.std.proofs.Common.{◌≡◌, ℕ, zero, suc, ◌+◌, ◌-◌, ◌*◌, ◌/◌, ◌%◌, ◌<◌, ◌≤◌, ◌^◌, Bool, true, false, cond, List, [], ◌∷◌, ◌++◌, map, length, get_or, take, drop, arith, refl, sym, ap, subst, ◌∙◌, Ok, Err, None, Option, Result, length-append, length-take-le, length-drop}
+use Rattle.std.proofs.Common.{◌≡◌, ℕ, zero, suc, ◌-◌, ◌*◌, ◌/◌, ◌%◌, ◌<◌, ◌≤◌, true, List, [], ◌∷◌, ◌++◌, map, length, get_or, take, drop, arith, refl, sym, ap, subst, ◌∙◌, Ok, Err, None, Result, length-append, length-take-le, length-drop}
 use Rattle.std.proofs.lemmas.Int.{fits_signed_from_abs}
-use Rattle.std.proofs.lemmas.List.{take_at, drop_at, length-replicate, append-nil, replicate-append-replicate, take_all}
+use Rattle.std.proofs.lemmas.List.{take_at, drop_at, length-replicate, replicate-append-replicate, take_all}
 use Rattle.std.proofs.Math.ListN.{replicate}
 use Rattle.std.specs.Int.{w64}
 use Rattle.std.specs.List.{AllByRecursion, flat_map}
@@ -26,7 +26,7 @@ use Rattle.image.proofs.Exact.{read, none_fits}
 use Rattle.imagebook.specs.declared.fault.ImageFault.{ImageFault}
 use Rattle.imagebook.specs.Forms.{pieces, all_formed, misformed, formed_by, form_of}
 use Rattle.imagebook.specs.Images.{places_in, surveyed_as, read_by, image_read, opened_by, opened, image_of, Imaged}
-use Rattle.imagebook.specs.ImagesKept.{length-places_in, exact, front, and_first, and_second}
+use Rattle.imagebook.specs.ImagesKept.{length-places_in, front, and_first, and_second}
 use Rattle.imagebook.proofs.Forming.{form_by}
 use Rattle.imagebook.proofs.Meaning.{InForm, in_form, all_formed_by, read_held, opened_held}
 

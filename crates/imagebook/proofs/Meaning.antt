@@ -1,17 +1,15 @@
 -- What an image means, by its form and its places.
-use Rattle.std.proofs.Common.{◌≡◌, ℕ, zero, suc, ◌+◌, ◌*◌, ◌/◌, ◌%◌, ◌<◌, ◌≤◌, Bool, true, false, ◌&&◌, cond, List, [], ◌∷◌, length, get_or, drop, arith, refl, sym, ap, ◌∙◌, Some, None, Ok, Err, Option, Result}
+use Rattle.std.proofs.Common.{◌≡◌, ℕ, suc, ◌*◌, ◌/◌, ◌%◌, ◌≤◌, true, List, [], ◌∷◌, length, drop, arith, refl, sym, ap, ◌∙◌, None, Ok, Err}
 use Rattle.std.proofs.lemmas.List.{drop_all}
 use Rattle.books.specs.declared.flaw.Flaw.{Flaw}
-use Rattle.books.specs.Kept.{Kept}
 use Rattle.books.specs.Lists.{new_kept}
 use Rattle.books.specs.Stores.{kept_of}
 use Rattle.books.specs.Surveys.{surveyed}
 use Rattle.image.specs.Places.{is_formed}
-use Rattle.image.specs.Faults.{place_read}
 use Rattle.imagebook.specs.declared.fault.ImageFault.{ImageFault}
 use Rattle.imagebook.specs.declared.fault.ImageFault.TheVariants.{Places}
-use Rattle.imagebook.specs.Forms.{pieces, all_formed, misformed, formed_by, form_of}
-use Rattle.imagebook.specs.Images.{places_in, image_read, opened, beside_by, fault_of}
+use Rattle.imagebook.specs.Forms.{pieces, all_formed, misformed, form_of}
+use Rattle.imagebook.specs.Images.{places_in, image_read, opened, beside_by}
 
 -- what the form says of an image that is in form
 pub record InForm (bs : List ℕ) (n : ℕ) : Type 0 where

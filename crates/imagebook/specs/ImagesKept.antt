@@ -1,12 +1,11 @@
 -- The places of an image are written as its bytes stand. Assumes nothing.
-use Rattle.std.proofs.Common.{◌≡◌, ℕ, zero, suc, ◌+◌, ◌*◌, ◌<◌, ◌≤◌, Bool, true, false, ◌&&◌, List, [], ◌∷◌, ◌++◌, map, length, get_or, take, drop, arith, refl, sym, ap, ◌∙◌, append_assoc}
-use Rattle.std.proofs.lemmas.List.{length-map, take-append-drop, length-take-le, length-drop, drop-drop}
+use Rattle.std.proofs.Common.{◌≡◌, ℕ, zero, suc, ◌+◌, ◌*◌, ◌≤◌, Bool, true, false, ◌&&◌, List, ◌++◌, map, length, take, drop, arith, refl, sym, ap, ◌∙◌}
+use Rattle.std.proofs.lemmas.List.{length-map, take-append-drop, length-take-le, length-drop}
 use Rattle.std.proofs.Math.Seq.{take-add}
 use Rattle.std.specs.List.{AllByRecursion}
 use Rattle.std.specs.Simd.{first_chunks}
-use Rattle.books.specs.declared.place.Place.{Place}
 use Rattle.books.specs.Stores.{joined}
-use Rattle.image.specs.Places.{place_bytes, place_of, is_formed}
+use Rattle.image.specs.Places.{place_bytes, place_of}
 use Rattle.image.specs.Laws.{IsBytes}
 use Rattle.image.proofs.Amounts.{Small, small_take, small_drop}
 use Rattle.image.proofs.Reading.{length-first_chunks}

@@ -1,4 +1,4 @@
-use Rattle.std.proofs.Common.{◌≡◌, ◌%◌, ◌/◌, length, Ok, arith, sym, ap, ◌∙◌}
+use Rattle.std.proofs.Common.{◌≡◌, ◌/◌, length, Ok, arith, sym, ap, ◌∙◌}
 use Rattle.imagebook.specs.Forms.{pieces, misformed, formed_by}
 use Rattle.imagebook.proofs.Forming.{form_ragged, form_many, form_by}
 use Rattle.imagebook.proofs.form.form.Goals as goal

@@ -1,4 +1,4 @@
-use Rattle.std.proofs.Common.{◌≡◌, ◌*◌, drop, sym, ap, ◌∙◌}
+use Rattle.std.proofs.Common.{◌≡◌, sym, ap, ◌∙◌}
 use Rattle.books.specs.Lists.{new_kept}
 use Rattle.imagebook.specs.ImagesKept.{length-places_in}
 use Rattle.imagebook.proofs.Meaning.{none_placed}

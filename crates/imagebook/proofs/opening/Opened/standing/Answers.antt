@@ -1,7 +1,6 @@
-use Rattle.std.proofs.Common.{◌*◌, drop, sym, ap, ◌∙◌, Some}
+use Rattle.std.proofs.Common.{◌*◌, drop, sym, ap, ◌∙◌}
 use Rattle.books.specs.Stores.{kept_of}
 use Rattle.imagebook.specs.Images.{places_in, fault_of}
-use Rattle.imagebook.specs.declared.fault.ImageFault.TheVariants.{Places}
 use Rattle.imagebook.proofs.Meaning.{read_held, read_flawed, opened_held, beside_held, opened_err, beside_err}
 use Rattle.imagebook.proofs.opening.Opened.standing.Goals as goal
 
