@@ -8,7 +8,7 @@ pub mod Keeping
 pub mod Seating
 pub mod Puts
 pub mod Moving
+pub mod Testing
 pub mod Surveying
 pub mod Standing
-pub mod Testing
 pub mod Shelving

@@ -8,7 +8,7 @@ use Rattle.books.specs.declared.place.Place.{Place}
 use Rattle.books.specs.declared.flaw.Flaw.{Flaw}
 use Rattle.books.specs.declared.survey.Front.{Front}
 use Rattle.books.specs.Places.{free, at, in_range}
-use Rattle.books.specs.Surveys.{first_out, start, step, walk, used_of, surveyed}
+use Rattle.books.specs.Surveys.{Shaped, first_out, start, step, walk, used_of, surveyed}
 
 pub out_here : (xs : List Amounts) (i : ℕ) → i < length xs → in_range (get_or xs i none) ≡ false → first_out i (drop i xs) ≡ Some i
 unfolding first_out
@@ -22,11 +22,11 @@ pub out_nowhere : (xs : List Amounts) (i j : ℕ) → i ≡ length xs → first_
 unfolding first_out
 out_nowhere xs i j e = let d = drop_all i xs (omega arith) in grind arith
 
--- the places so far have led to this front, and are as long as they should be
+-- the places so far have led to this front
 pub record Surveyed (xs : List Place) (i : ℕ) (f : Front) : Type 0 where
   pub used : f.used ≤ i
   pub left : walk i (Ok f) (drop i xs) ≡ walk 0 (Ok start) xs
-  pub long : (q : ℕ) → q < i → length (at xs q).amounts ≡ 64
+  pub shaped : (q : ℕ) → q < i → Shaped (at xs q)
 
 walked : (xs : List Place) (i : ℕ) (f : Front) (r : Result Front Flaw) → i < length xs → r ≡ step f i (at xs i) → walk (i + 1) r (drop (i + 1) xs) ≡ walk i (Ok f) (drop i xs)
 unfolding walk
@@ -37,13 +37,13 @@ unfolding step
 step_used f g i x e w = grind arith
 
 module _ (xs : List Place) (i : ℕ) (f : Front) (s : Surveyed xs i f) where
-  pub survey_more : (g : Front) → i < length xs → Ok g ≡ step f i (at xs i) → length (at xs i).amounts ≡ 64 → Surveyed xs (i + 1) g
+  pub survey_more : (g : Front) → i < length xs → Ok g ≡ step f i (at xs i) → Shaped (at xs i) → Surveyed xs (i + 1) g
   survey_more g l e n = record {
     used = step_used f g i (at xs i) (sym e) s.used;
     left = walked xs i f (Ok g) l e ∙ s.left;
-    long = λ q k. elim (cases_lt q i) [
-      | inl h ↦ s.long q h
-      | inr h ↦ subst (λ j. length (at xs j).amounts ≡ 64) (omega arith) n
+    shaped = λ q k. elim (cases_lt q i) [
+      | inl h ↦ s.shaped q h
+      | inr h ↦ subst (λ j. Shaped (at xs j)) (omega arith) n
     ];
   }
 

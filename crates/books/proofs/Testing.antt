@@ -17,7 +17,7 @@ pub rises_by : (xs : List Place) → Rising xs → rises xs ≡ true
 rises_by [] r = refl
 rises_by (x ∷ xs) r = to_rises x.day xs r.0 r.1
 
-all_ranged_by : (xs : List Amounts) → ((q : ℕ) → in_range (get_or xs q none) ≡ true) → all_ranged xs ≡ true
+pub all_ranged_by : (xs : List Amounts) → ((q : ℕ) → in_range (get_or xs q none) ≡ true) → all_ranged xs ≡ true
 unfolding all_ranged
 all_ranged_by [] h = refl
 all_ranged_by (x ∷ xs) h = let a = h 0 in let g = all_ranged_by xs (λ q. h (suc q)) in grind arith

@@ -1,13 +1,14 @@
 -- Whether places that stand as they were left are those of a book. Assumes nothing.
-use Rattle.std.specs.Prelude.{ℕ, zero, suc, ◌+◌, Bool, cond, not, ◌&&◌, List, [], ◌∷◌, ◌==◌, nat_le, unsigned_abs, Some, None, Ok, Err, Option, Result}
+use Rattle.std.specs.Prelude.{◌≡◌, ◌<◌, ◌≤◌, length, ℕ, zero, suc, ◌+◌, Bool, cond, not, ◌&&◌, List, [], ◌∷◌, ◌==◌, nat_le, unsigned_abs, Some, None, Ok, Err, Option, Result}
 use Rattle.std.specs.List.{list_all}
+use Rattle.terms.specs.Limits.{last_day}
 use Rattle.amounts.specs.declared.row.Amounts.{Amounts}
 use Rattle.books.specs.declared.place.Place.{Place}
 use Rattle.books.specs.declared.flaw.Wrong.{Wrong}
 use Rattle.books.specs.declared.flaw.Wrong.TheVariants.{AfterFree, NotRising, Amounts as OfEntity, NotFree}
 use Rattle.books.specs.declared.flaw.Flaw.{Flaw}
 use Rattle.books.specs.declared.survey.Front.{Front}
-use Rattle.books.specs.Places.{is_taken, in_range}
+use Rattle.books.specs.Places.{at, is_taken, in_range}
 
 abbrev pub is_none : Amounts → Bool
 is_none a = unsigned_abs a.reactive == 0 && (unsigned_abs a.held == 0 && unsigned_abs a.load == 0)
@@ -55,6 +56,14 @@ walk i (Ok f) (x ∷ xs) = walk (suc i) (step f i x) xs
 abbrev pub used_of : Result Front Flaw → Result ℕ Flaw
 used_of (Ok f) = Ok f.used
 used_of (Err e) = Err e
+
+-- what a place in memory is, whatever it says
+pub record Shaped (x : Place) : Type 0 where
+  pub day : x.day ≤ last_day
+  pub long : length x.amounts ≡ 64
+
+abbrev pub Memory : List Place → Type 0
+Memory xs = (q : ℕ) → q < length xs → Shaped (at xs q)
 
 -- THE SURVEY: how many days are held, or the first fault
 unfoldable pub surveyed : List Place → Result ℕ Flaw

@@ -5,7 +5,6 @@ ghost use Rattle.books.specs.Stores.{kept_of, laid};
 ghost use Rattle.books.specs.declared.place.Place.{Place};
 ghost use Rattle.books.specs.RecordsKept.{few_records, pinned_records};
 
-use crate::moves::clear;
 use crate::place::Place;
 use crate::shelf::Shelf;
 use crate::store::Store;
@@ -59,17 +58,14 @@ impl Shelf<Records> {
         ensures kept { kept_of (take 32 result.store.records.items) result.used ≡ new_kept (length (take 32 records.items)) }
         ensures beside { drop 32 result.store.records.items ≡ drop 32 records.items }
     {
-        let mut store = Records { records };
-        clear(&mut store);
-        Shelf { store, used: 0 }
+        Shelf::cleared(Records { records })
     }
 
     // Hands the records back: the held days, free places, and what stood behind them.
     pub fn close(self) -> Vec<Place>
         ensures { result.items ≡ laid (kept_of (take 32 self.store.records.items) self.used) ++ drop 32 self.store.records.items }
     {
-        let Shelf { store, used: _ } = self;
-        let Records { records } = store;
+        let Records { records } = self.into_store();
         records
     }
 }

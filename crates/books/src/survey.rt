@@ -2,7 +2,7 @@
 ghost use Rattle.std.specs.Prelude.{◌≡◌, ℕ, suc, ◌<◌, ◌≤◌, length, IfOk};
 ghost use Rattle.std.specs.List.{list_all};
 ghost use Rattle.books.specs.Places.{at, is_taken};
-ghost use Rattle.books.specs.Surveys.{is_none, is_bare, first_out, taken_fault, place_fault, step, surveyed};
+ghost use Rattle.books.specs.Surveys.{Shaped, is_none, is_bare, first_out, taken_fault, place_fault, step, surveyed};
 
 use crate::flaw::{Flaw, Wrong};
 use crate::place::{Place, is_in_range};
@@ -108,7 +108,7 @@ impl Front {
 // How many days the places of a store hold, or what is wrong with them first.
 pub(crate) fn survey<S: Store>(store: &S) -> Result<usize, Flaw>
     ensures value { result ≡ surveyed (S.Store.slots store.now) }
-    ensures long { IfOk result (λ u. (q : ℕ) → q < length (S.Store.slots store.now) → length (at (S.Store.slots store.now) q).amounts ≡ 64) }
+    ensures shaped { IfOk result (λ u. (q : ℕ) → q < length (S.Store.slots store.now) → Shaped (at (S.Store.slots store.now) q)) }
 {
     let mut front = Front { used: 0, least: 0 };
     for index in 0..store.count() {
