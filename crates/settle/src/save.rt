@@ -27,12 +27,15 @@ impl fmt::Display for SaveFault {
             SaveFault::Taken => f.write_str("there is something already, and it is left as it is"),
             SaveFault::Busy(beside) => write!(
                 f,
-                "{beside} is there already, of a call that is still writing or was cut off"
+                "{beside} is there already; a call is writing it, or was cut off and left it"
             ),
             SaveFault::Unwritten(e) => write!(f, "cannot be written: {e}"),
             SaveFault::Unplaced(e) => write!(f, "cannot be put in place: {e}"),
             SaveFault::Unsettled(e) => {
-                write!(f, "is written, but its folder cannot be brought up to date: {e}")
+                write!(
+                    f,
+                    "is written, but its folder cannot be brought up to date: {e}"
+                )
             }
         }
     }

@@ -57,8 +57,8 @@ impl<R: Files + Clock + Print + Eprint + AllocGlobal> Console<'_, R> {
             ["new", ..] => self.wrong("book new wants PATH PLACES"),
             ["show", path] => self.show_book(path, None),
             ["show", path, day] => self.show_book(path, Some(day)),
-            ["show", ..] => self.wrong("book show wants PATH, or PATH DAY"),
-            [] | [_, ..] => self.wrong("book wants new or show, and then their words"),
+            ["show", ..] => self.wrong("book show wants PATH and then DAY or nothing"),
+            [] | [_, ..] => self.wrong("book wants new PATH PLACES or show PATH [DAY]"),
         }
     }
 
