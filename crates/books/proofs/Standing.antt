@@ -1,5 +1,5 @@
 -- Places that the survey passes are those of a book, and those of a book pass.
-use Rattle.std.proofs.Common.{◌≡◌, ℕ, zero, suc, ◌+◌, ◌-◌, ◌<◌, ◌≤◌, Bool, true, false, ◌&&◌, List, [], ◌∷◌, ◌++◌, length, take, get_or, arith, refl, sym, ap, ◌∙◌, nat_le, Ok, Err, None, Result, subst, inl, inr}
+use Rattle.std.proofs.Common.{◌≡◌, ℕ, zero, suc, ◌+◌, ◌-◌, ◌<◌, ◌≤◌, Bool, true, false, ◌&&◌, List, [], ◌∷◌, ◌++◌, length, take, arith, refl, sym, ap, ◌∙◌, nat_le, Ok, Err, None, Result, subst, inl, inr}
 use Rattle.std.proofs.lemmas.Bool.{cases_Bool}
 use Rattle.std.specs.List.{list_all, AllByRecursion}
 use Rattle.std.proofs.Math.ListN.{replicate}
@@ -9,14 +9,14 @@ use Rattle.amounts.specs.Triples.{none}
 use Rattle.books.specs.declared.place.Place.{Place}
 use Rattle.books.specs.declared.flaw.Flaw.{Flaw}
 use Rattle.books.specs.declared.survey.Front.{Front}
-use Rattle.books.specs.Places.{free, at, is_taken, zeros}
+use Rattle.books.specs.Places.{free, at, is_taken}
 use Rattle.books.specs.Kept.{Kept}
 use Rattle.books.specs.Laws.{Rising, SoundPlace, Sound}
 use Rattle.books.specs.Stores.{kept_of, laid}
 use Rattle.books.specs.ShelvesKept.{sound_of, laid_is}
 use Rattle.books.proofs.Testing.{all_ranged_by, rises_by as rises_by_fact}
 use Rattle.books.specs.Tests.{rises_from, rises, all_ranged, is_sound, all_sound}
-use Rattle.books.specs.Surveys.{Shaped, Memory, is_none, is_bare, first_out, start, step, walk, used_of, surveyed}
+use Rattle.books.specs.Surveys.{Memory, is_none, is_bare, first_out, start, step, walk, used_of, surveyed}
 
 memory_rest : (x : Place) (xs : List Place) → Memory (x ∷ xs) → Memory xs
 memory_rest x xs l q h = l (suc q) (omega (arith, h))
@@ -126,7 +126,7 @@ stood (x ∷ xs) f g h k =
             each = (let b = r.each in grind arith);
             free = free_rest x xs r.n r.free;
           }
-        )
+          )
       | inr t ↦ (
           let s = bare_step f x xs g t h in
           let r = all_after xs (suc f.used) f g (omega arith) (ap (λ z. walk (suc f.used) z xs) (sym s.0) ∙ h) (memory_rest x xs k) in
@@ -138,7 +138,7 @@ stood (x ∷ xs) f g h k =
             each = refl;
             free = λ q l. free_each x xs (bare_is x t s.1 (k 0 (omega arith)).long) r.free q;
           }
-        )
+          )
     ]
 
 -- what the survey says of places that it passes

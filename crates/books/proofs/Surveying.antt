@@ -1,5 +1,5 @@
 -- Places that stand as they were left, looked at one by one.
-use Rattle.std.proofs.Common.{◌≡◌, ℕ, suc, ◌+◌, ◌<◌, ◌≤◌, List, [], ◌∷◌, length, get_or, drop, arith, refl, sym, ◌∙◌, ap, false, true, Some, None, Option, Ok, Err, Result, inl, inr, subst}
+use Rattle.std.proofs.Common.{◌≡◌, ℕ, ◌+◌, ◌<◌, ◌≤◌, List, length, get_or, drop, arith, sym, ◌∙◌, false, true, Some, None, Ok, Err, Result, inl, inr, subst}
 use Rattle.std.proofs.lemmas.Bool.{cases_lt}
 use Rattle.std.proofs.lemmas.List.{drop_more, drop_all}
 use Rattle.amounts.specs.declared.row.Amounts.{Amounts}
@@ -8,7 +8,7 @@ use Rattle.books.specs.declared.place.Place.{Place}
 use Rattle.books.specs.declared.flaw.Flaw.{Flaw}
 use Rattle.books.specs.declared.survey.Front.{Front}
 use Rattle.books.specs.Places.{free, at, in_range}
-use Rattle.books.specs.Surveys.{Shaped, first_out, start, step, walk, used_of, surveyed}
+use Rattle.books.specs.Surveys.{Shaped, first_out, start, step, walk, surveyed}
 
 pub out_here : (xs : List Amounts) (i : ℕ) → i < length xs → in_range (get_or xs i none) ≡ false → first_out i (drop i xs) ≡ Some i
 unfolding first_out

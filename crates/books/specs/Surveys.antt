@@ -1,5 +1,5 @@
 -- Whether places that stand as they were left are those of a book. Assumes nothing.
-use Rattle.std.specs.Prelude.{◌≡◌, ◌<◌, ◌≤◌, length, ℕ, zero, suc, ◌+◌, Bool, cond, not, ◌&&◌, List, [], ◌∷◌, ◌==◌, nat_le, unsigned_abs, Some, None, Ok, Err, Option, Result}
+use Rattle.std.specs.Prelude.{◌≡◌, ◌<◌, ◌≤◌, length, ℕ, suc, Bool, cond, ◌&&◌, List, [], ◌∷◌, ◌==◌, nat_le, unsigned_abs, Some, None, Ok, Err, Option, Result}
 use Rattle.std.specs.List.{list_all}
 use Rattle.terms.specs.Limits.{last_day}
 use Rattle.amounts.specs.declared.row.Amounts.{Amounts}

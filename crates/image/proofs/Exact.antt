@@ -70,7 +70,7 @@ exact bs p =
 zero_fits : FitsSigned w64 (pos 0)
 zero_fits = record { sfits = omega arith }
 
-none_fits : Fits none
+pub none_fits : Fits none
 none_fits = record { reactive = zero_fits; held = zero_fits; load = zero_fits }
 
 all_fit : (n : ℕ) (bs : List ℕ) → Small bs → (q : ℕ) → Fits (slice_index_or (map amounts_of (first_chunks 24 n bs)) q none)

@@ -1,5 +1,4 @@
-use Rattle.std.proofs.Common.{◌≡◌, arith, rules, sym, ◌∙◌, ap, subst}
-use Rattle.books.specs.Places.{at}
+use Rattle.std.proofs.Common.{arith, rules, sym, ◌∙◌, ap, subst}
 use Rattle.books.specs.Surveys.{Shaped, step}
 use Rattle.books.proofs.Surveying.{survey_more, survey_stops, survey_ends}
 use Rattle.books.proofs.survey.survey.Goals as goal

@@ -1,4 +1,3 @@
-use Rattle.std.proofs.Common.{◌≤◌}
 use Rattle.books.proofs.Surveying.{Surveyed}
 use Rattle.books.proofs.survey.survey.Given as goal
 

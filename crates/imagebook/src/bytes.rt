@@ -1,9 +1,10 @@
 // A store in an image of bytes.
-ghost use Rattle.std.specs.Prelude.{◌≡◌, ℕ, ◌*◌, ◌<◌, ◌≤◌, true, drop, length, slice_index};
+ghost use Rattle.std.specs.Prelude.{◌≡◌, ℕ, ◌+◌, ◌*◌, ◌<◌, ◌≤◌, true, drop, length, slice_index};
 ghost use Rattle.std.specs.Simd.{first_chunks};
+ghost use Rattle.image.specs.Laws.{Written};
 ghost use Rattle.image.specs.Places.{place_bytes};
 ghost use Rattle.imagebook.specs.Forms.{all_formed};
-ghost use Rattle.imagebook.specs.Images.{places_in};
+ghost use Rattle.imagebook.specs.Images.{over, places_in};
 ghost use Rattle.imagebook.specs.ImagesKept.{few_places, pinned_places};
 
 use books::place::Place;
@@ -20,6 +21,15 @@ pub struct Image {
     ghost within: { 1544 * count ≤ length bytes.items },
     ghost small: { (i : ℕ) → slice_index bytes.items i < 256 },
     ghost formed: { all_formed (first_chunks 1544 count bytes.items) ≡ true },
+}
+
+// Writes a place over the one that begins at a byte.
+fn write_over(bytes: &mut [u8], start: usize, place: &Place)
+    requires within { start + 1544 ≤ length bytes.old }
+    ensures over { bytes.new ≡ over start 1544 bytes.old (place_bytes place.now) }
+    ensures written { Written place.now }
+{
+    bytes[start..start + PLACE_BYTES].copy_from_slice(&place_bytes(place));
 }
 
 impl Store for Image {
@@ -51,8 +61,7 @@ impl Store for Image {
 
     fn put(&mut self, i: usize, place: Place) {
         if i < self.count {
-            let start = i * PLACE_BYTES;
-            self.bytes[start..start + PLACE_BYTES].copy_from_slice(&place_bytes(&place));
+            write_over(&mut self.bytes, i * PLACE_BYTES, &place);
         }
     }
 }

@@ -1,0 +1,5 @@
+pub mod Chunks
+pub mod Placing
+pub mod Forming
+pub mod Meaning
+pub mod Imaging
