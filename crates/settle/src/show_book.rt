@@ -4,7 +4,7 @@ use crate::words::number_of;
 use books::place::Place;
 use books::refusal::BookRefusal;
 use books::shelf::Shelf;
-use imagebook::image::Image;
+use imagebook::bytes::Image;
 use imagebook::opening::{Opened, close};
 use messages::broken::MOST_BYTES;
 use messages::table::Line;
