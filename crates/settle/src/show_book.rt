@@ -7,7 +7,6 @@ use books::shelf::Shelf;
 use imagebook::bytes::Image;
 use imagebook::opening::{Opened, close};
 use messages::broken::MOST_BYTES;
-use messages::table::Line;
 use messages::{broken, marks, table};
 use std::io;
 use std::rt::Files;
@@ -95,23 +94,8 @@ impl<R: Files + Print + Eprint + AllocGlobal> Console<'_, R> {
         let state = marks::state(place.reserved, place.billed);
         println!(self.rt; "day {day}: {state}")?;
         if place.reserved || place.billed {
-            self.say_amounts(place)?;
+            self.say_table(&place.amounts, table::total(&place.amounts))?;
         }
         Ok(())
-    }
-
-    fn say_amounts(&self, place: &Place) -> io::Result<()> {
-        self.rt.println(table::HEADING)?;
-        for (label, amounts) in place.amounts.iter().enumerate() {
-            let amounts = *amounts;
-            if table::is_shown(amounts) {
-                self.rt.println(Line { label, amounts })?;
-            }
-        }
-        let amounts = table::total(&place.amounts);
-        self.rt.println(Line {
-            label: "TOT",
-            amounts,
-        })
     }
 }
