@@ -1,6 +1,8 @@
-// What the program says in words: why a file is refused or a run stops and what a warning means.
+// What the program says in words: why a file is refused or is no book, why a run stops, what a warning means and how a day stands.
 #![tactic(auto)]
 
+pub mod broken;
+pub mod marks;
 mod names;
 mod place;
 mod quotes;

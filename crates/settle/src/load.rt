@@ -7,9 +7,14 @@ use std::io::Read;
 use std::rt::Files;
 
 impl<R: Files + Print + Eprint + AllocGlobal> Console<'_, R> {
-    // The bytes of a file; none where it cannot be read, which is said.
+    // The bytes of a determinant file, as below.
     pub(crate) fn load(&self, path: &str) -> io::Result<Option<Vec<u8>>> {
-        match read(self.rt, path) {
+        self.load_most(path, MOST_BYTES)
+    }
+
+    // The bytes of a file that is to have so many at most, or one more; none where it cannot be read, which is said.
+    pub(crate) fn load_most(&self, path: &str, most: usize) -> io::Result<Option<Vec<u8>>> {
+        match read(self.rt, path, most) {
             Ok(bytes) => Ok(Some(bytes)),
             Err(e) => {
                 self.complain(format_args!("{path}: cannot be read: {e}"))?;
@@ -19,10 +24,11 @@ impl<R: Files + Print + Eprint + AllocGlobal> Console<'_, R> {
     }
 }
 
-// The file's bytes, or its first `MOST_BYTES + 1`: one more than a determinant file may have tells as much as all.
-fn read<R: Files + AllocGlobal>(rt: &R, path: &str) -> io::Result<Vec<u8>> {
+// The file's bytes, or the first `most + 1`: one more than it may have tells as much as all.
+fn read<R: Files + AllocGlobal>(rt: &R, path: &str, most: usize) -> io::Result<Vec<u8>> {
     let mut bytes = Vec::new(rt.alloc());
     let file = File::open(rt, path)?;
-    file.take(MOST_BYTES as u64 + 1).read_to_end(&mut bytes)?;
+    let enough = (most as u64).saturating_add(1);
+    file.take(enough).read_to_end(&mut bytes)?;
     Ok(bytes)
 }

@@ -5,9 +5,12 @@ mod ask;
 mod check;
 mod console;
 mod load;
+mod new_book;
 mod options;
+mod save;
 mod script;
 mod sheet;
+mod show_book;
 mod words;
 mod work;
 

@@ -14,6 +14,10 @@ const USAGE: &str = "usage: settle COMMAND
   settle work FILE DAY [--rule away|even] [--fill]
       the amounts of a day worked from a file, as: settle work day.txt 7; --rule even rounds half a cent to the even
       neighbour and not away from zero; --fill takes zero where VSSVARIOL, URLLAG or URLLEAD is null
+  settle book new PATH PLACES
+      a new book of 0 to 32 places, as: settle book new book.bin 32; what is at PATH already is never overwritten
+  settle book show PATH [DAY]
+      the days that a book holds, or one of them, with their amounts, as: settle book show book.bin 7
   settle help
       this text
 With no command, each line of standard input is one; blank lines and lines that begin with # are passed over.";
@@ -37,11 +41,24 @@ impl<R: Files + Clock + Print + Eprint + AllocGlobal> Console<'_, R> {
             ["ask", ..] => self.wrong("ask wants FILE NAME UNIT DAY INT"),
             ["work", path, day, ref options @ ..] => self.work(path, day, options),
             ["work", ..] => self.wrong("work wants FILE DAY and then its options"),
+            ["book", ref words @ ..] => self.book(words),
             ["help" | "--help" | "-h", ..] => {
                 self.rt.println(USAGE)?;
                 Ok(true)
             }
             [name, ..] => self.wrong(format_args!("there is no command {name}")),
+        }
+    }
+
+    // A command on a book.
+    fn book(&self, words: &[&str]) -> anyhow::Result<bool> {
+        match *words {
+            ["new", path, places] => self.new_book(path, places),
+            ["new", ..] => self.wrong("book new wants PATH PLACES"),
+            ["show", path] => self.show_book(path, None),
+            ["show", path, day] => self.show_book(path, Some(day)),
+            ["show", ..] => self.wrong("book show wants PATH and then DAY or nothing"),
+            [] | [_, ..] => self.wrong("book wants new PATH PLACES or show PATH [DAY]"),
         }
     }
 

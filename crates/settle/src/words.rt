@@ -1,5 +1,7 @@
 // Numbers among the words of a command.
+use crate::console::Console;
 use std::fmt;
+use terms::question::LAST_DAY;
 
 // A word that should be a number: what it stands for, and a command that is right.
 #[derive(Clone, Copy)]
@@ -37,4 +39,14 @@ pub(crate) fn number_of<'a>(
         });
     }
     Ok(word.parse().unwrap_or(u32::MAX))
+}
+
+impl<R: Print> Console<'_, R> {
+    // Of a day that lies outside its range, by the number of the answer.
+    pub(crate) fn say_day_refused(&self, day: &str, answer: u32) -> anyhow::Result<bool> {
+        println!(self.rt;
+            "day {day}: refused, answer {answer}: a day is a number from 0 to {LAST_DAY}"
+        )?;
+        Ok(false)
+    }
 }

@@ -7,7 +7,7 @@ use intervals::warning::Warning;
 use messages::{stopped, warned};
 use rounding::rules::Rule;
 use runs::day::RunDay;
-use runs::refusal::{DayRefusal, IntervalRefusal};
+use runs::refusal::IntervalRefusal;
 use runs::run::Run;
 use runs::working::WARNING_ROWS;
 use sources::fill::ZeroFill;
@@ -15,7 +15,7 @@ use std::fmt::Display;
 use std::rt::{Clock, Files};
 use std::time::Instant;
 use std::{fmt, io};
-use terms::question::{LAST_DAY, LAST_INTERVAL};
+use terms::question::LAST_INTERVAL;
 use terms::source::Source;
 
 const EXAMPLE: &str = "settle work day.txt 7 --rule even";
@@ -67,16 +67,8 @@ impl<R: Files + Clock + Print + Eprint + AllocGlobal> Console<'_, R> {
         };
         match RunDay::try_from(number) {
             Ok(checked) => self.work_file(path, checked, options),
-            Err(refusal) => self.say_day_refused(day, refusal),
+            Err(refusal) => self.say_day_refused(day, refusal.number()),
         }
-    }
-
-    fn say_day_refused(&self, day: &str, refusal: DayRefusal) -> anyhow::Result<bool> {
-        let answer = refusal.number();
-        println!(self.rt;
-            "day {day}: refused, answer {answer}: a day is a number from 0 to {LAST_DAY}"
-        )?;
-        Ok(false)
     }
 
     fn work_file(&self, path: &str, day: RunDay, options: Options) -> anyhow::Result<bool> {
