@@ -1,0 +1,5 @@
+// The accounts of a book: reserving a day gives a slip, and posting a sheet under the slip bills what the book did not have yet.
+#![tactic(auto)]
+
+pub mod refusal;
+pub mod slip;
