@@ -1,1 +1,4 @@
 pub mod Refusals
+pub mod Slips
+pub mod Postings
+pub mod Histories

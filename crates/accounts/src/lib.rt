@@ -2,4 +2,5 @@
 #![tactic(auto)]
 
 pub mod refusal;
+pub mod reservation;
 pub mod slip;

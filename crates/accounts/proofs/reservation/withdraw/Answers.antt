@@ -1,0 +1,15 @@
+use Rattle.std.proofs.Common.{◌≡◌, ◌≤◌, sym, subst}
+use Rattle.terms.specs.Limits.{last_day}
+use Rattle.accounts.proofs.Laws.{withdraw_by, withdraw_known_by}
+use Rattle.accounts.proofs.reservation.withdraw.Goals as goal
+
+pub returns-clause-law : goal.returns-clause-law
+returns-clause-law g c =
+    let a = simp c.spend.ensures.day at c.lift.ensures.answer in
+    let l = simp c.spend.ensures.day at c.lift.ensures.kept in
+    withdraw_by _ _ c.args.slip.day _ a l (g.met.B.Book.sound c.args.book.now).rising c.args.slip.inside
+
+pub returns-clause-known : goal.returns-clause-known
+returns-clause-known g c =
+    let a = simp c.spend.ensures.day at c.lift.ensures.answer in
+    withdraw_known_by _ c.args.slip.day _ a c.args.slip.inside
