@@ -92,7 +92,7 @@ pub withdraw_law : (k : Kept) (d : ℕ) (h : History) → Rising k.held → d �
 withdraw_law k d h rising within law = lift_law k d h _ refl rising within law
 
 -- a slip that is out is of a reserved day
-out_reserved : (k : Kept) (d : ℕ) (h : History) → Accounts h k → SlipOut h d → (entry k d).reserved ≡ true
+pub out_reserved : (k : Kept) (d : ℕ) (h : History) → Accounts h k → SlipOut h d → (entry k d).reserved ≡ true
 out_reserved k d h law is = let a = law.slip_out d in grind arith
 
 pub withdraw_known : (k : Kept) (d : ℕ) (h : History) → d ≤ last_day → Accounts h k → SlipOut h d → Known (told (lifting k d false).answer)

@@ -1,3 +1,4 @@
 pub mod Effects
 pub mod Billing
 pub mod Laws
+pub mod Posts
