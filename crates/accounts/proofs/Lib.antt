@@ -2,3 +2,4 @@ pub mod Effects
 pub mod Billing
 pub mod Laws
 pub mod Posts
+pub mod Overlays

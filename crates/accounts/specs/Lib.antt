@@ -1,4 +1,5 @@
 pub mod Refusals
 pub mod Slips
 pub mod Postings
+pub mod Settlings
 pub mod Histories

@@ -3,4 +3,5 @@
 
 pub mod refusal;
 pub mod reservation;
+mod settling;
 pub mod slip;
