@@ -76,9 +76,9 @@ module _ (k : Kept) (d : ℕ) (w : Work) (bills : List Amounts) where
         by None m = tt
 
 -- the same where the answer, what is kept and the bills are known by equations
-module _ (k l : Kept) (d : ℕ) (w : Work) (bills after : List Amounts) (a : Told ℕ) (a-is : a ≡ told (posting k d w bills).answer) where
-  pub post_by : l ≡ (posting k d w bills).after → after ≡ (posting k d w bills).bills → Rising k.held → d ≤ last_day → (h : History) (t : Trace) → Accounts h k → WorkedBy t w → Accounts (posts d t (take 64 after) a ∷ h) l
-  post_by l-is b-is rising within h t law by = rw (a-is, l-is, b-is) (post_law k d w bills h law rising within t by)
+module _ (k : Kept) (d : ℕ) (w : Work) (bills : List Amounts) (a : Told ℕ) (a-is : a ≡ told (posting k d w bills).answer) where
+  pub post_by : (l : Kept) (after : List Amounts) → l ≡ (posting k d w bills).after → after ≡ (posting k d w bills).bills → Rising k.held → d ≤ last_day → (h : History) (t : Trace) → Accounts h k → WorkedBy t w → Accounts (posts d t (take 64 after) a ∷ h) l
+  post_by l after l-is b-is rising within h t law by = rw (a-is, l-is, b-is) (post_law k d w bills h law rising within t by)
 
   pub post_known_by : (h : History) → Accounts h k → SlipOut h d → Known a
   post_known_by h law is = rw a-is (post_known k d w bills h law is)
