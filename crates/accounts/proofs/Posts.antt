@@ -17,7 +17,7 @@ use Rattle.accounts.specs.Postings.{Posted, posting, posted_by, misfit, settled,
 use Rattle.accounts.specs.Histories.{History, Accounts, effect, took, posts, SlipOut, Known}
 use Rattle.accounts.proofs.Billing.{row_billed}
 use Rattle.accounts.proofs.Effects.{law_stray, law_settled}
-use Rattle.accounts.proofs.Laws.{lift_law, out_reserved}
+use Rattle.accounts.proofs.Keeping.{lift_law, out_reserved}
 
 -- a sheet that fits
 record Fits (d : ℕ) (w : Work) (rows : ℕ) : Type 0 where

@@ -3,3 +3,5 @@ pub mod Slips
 pub mod Postings
 pub mod Settlings
 pub mod Histories
+pub mod Calls
+pub mod Words

@@ -1,7 +1,7 @@
 use Rattle.std.proofs.Common.{◌≡◌, sym, ap, ◌∙◌, subst, refl}
 use Rattle.terms.specs.Told.{fine}
 use Rattle.accounts.specs.Histories.{SlipOut, reserves}
-use Rattle.accounts.proofs.Laws.{given_by, reserve_by, reserve_out}
+use Rattle.accounts.proofs.Keeping.{given_by, reserve_by, reserve_out}
 use Rattle.accounts.proofs.reservation.reserve.Goals as goal
 
 pub new-requires : goal.new-requires
