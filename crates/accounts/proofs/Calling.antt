@@ -1,5 +1,5 @@
 -- The law of accounts over whole lists of calls.
-use Rattle.std.proofs.Common.{◌≡◌, ℕ, ◌≤◌, true, false, List, [], ◌∷◌, ◌||◌, nat_lt, ◌==◌, length, Some, None, Option}
+use Rattle.std.proofs.Common.{ℕ, false, List, [], ◌∷◌, ◌||◌, nat_lt, length, Some, None, Option}
 use Rattle.std.proofs.lemmas.Bool.{cond_both}
 use Rattle.terms.specs.Limits.{last_day}
 use Rattle.runs.specs.declared.work.Work.{Work}

@@ -1,8 +1,7 @@
 -- The law of accounts is kept by each thing that a call can do.
-use Rattle.std.proofs.Common.{◌≡◌, ℕ, zero, suc, ◌<◌, ◌≤◌, Bool, true, false, cond, List, [], ◌∷◌, get_or, inl, inr, refl, sym, ap, ◌∙◌, subst, arith, ◌+ℤ◌, ◌-ℤ◌, ℤ, ◌==◌}
+use Rattle.std.proofs.Common.{◌≡◌, ℕ, ◌<◌, true, false, List, [], ◌∷◌, get_or, inl, inr, refl, sym, ap, ◌∙◌, subst, arith}
 use Rattle.std.proofs.lemmas.Bool.{cases_eq}
 use Rattle.amounts.specs.declared.row.Amounts.{Amounts}
-use Rattle.amounts.specs.Sums.{sum_to}
 use Rattle.amounts.specs.Triples.{none, plus, net}
 use Rattle.amounts.specs.Traces.{Trace, amount, shares}
 use Rattle.amounts.proofs.Sums.{sum_same, sum_none}
@@ -14,7 +13,7 @@ use Rattle.books.specs.Lists.{new_kept}
 use Rattle.books.proofs.Sounds.{zeros_none}
 use Rattle.accounts.specs.Postings.{less}
 use Rattle.accounts.proofs.Billing.{plus_less}
-use Rattle.accounts.specs.Histories.{Event, History, Accounts, Latest, never, run, Whole, WholeBy, effect, nothing, gave, took, settled, out, issued, last, answered, amount_by, shares_by, is_run}
+use Rattle.accounts.specs.Histories.{Event, History, Accounts, run, Whole, WholeBy, effect, nothing, gave, took, settled, issued, last, answered, amount_by, shares_by, is_run}
 
 -- a book that holds no day
 pub law_new : (n : ℕ) → Accounts [] (new_kept n)

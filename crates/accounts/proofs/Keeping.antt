@@ -1,12 +1,8 @@
 -- The law of accounts is kept by each call, over the definitions that the contracts name.
-use Rattle.std.proofs.Common.{◌≡◌, ℕ, ◌<◌, ◌≤◌, Bool, true, false, ◌||◌, cond, nat_lt, ◌==◌, List, ◌∷◌, length, take, get_or, set, Ok, Err, Result, Some, None, Option, inl, inr, refl, sym, ap, ◌∙◌, subst, arith, get_or-take}
-use Rattle.terms.specs.Told.{Told, fine, refuse}
-use Rattle.terms.specs.Limits.{last_day, last_interval}
-use Rattle.amounts.specs.declared.row.Amounts.{Amounts}
+use Rattle.std.proofs.Common.{◌≡◌, ℕ, ◌≤◌, Bool, true, false, ◌∷◌, Ok, Err, Result, refl, sym, ◌∙◌, subst, arith}
+use Rattle.terms.specs.Told.{Told, fine}
+use Rattle.terms.specs.Limits.{last_day}
 use Rattle.amounts.specs.Triples.{none}
-use Rattle.amounts.specs.Traces.{Trace, amount}
-use Rattle.runs.specs.declared.work.Work.{Work}
-use Rattle.runs.specs.Works.{WorkedBy}
 use Rattle.books.specs.declared.refusal.BookRefusal.{BookRefusal}
 use Rattle.books.specs.declared.refusal.BookRefusal.TheVariants.{OutOfRange, Reserved, Full, NotReserved}
 use Rattle.books.specs.Refusals.{numbered, told}
@@ -17,8 +13,8 @@ use Rattle.books.specs.Laws.{Rising}
 use Rattle.books.proofs.Entries.{entry_day, put_changes, cut_changes}
 use Rattle.books.proofs.Sounds.{zeros_none}
 use Rattle.accounts.specs.Slips.{given}
-use Rattle.accounts.specs.Histories.{Event, History, Accounts, Latest, never, run, effect, nothing, gave, took, reserves, withdraws, posts, out, last, issued, amount_by, is_run, SlipOut, Known}
-use Rattle.accounts.proofs.Effects.{law_nothing, law_gave, law_took, law_stray, law_settled}
+use Rattle.accounts.specs.Histories.{Event, History, Accounts, Latest, never, run, effect, nothing, took, reserves, withdraws, last, amount_by, is_run, SlipOut, Known}
+use Rattle.accounts.proofs.Effects.{law_nothing, law_gave, law_took, law_stray}
 
 -- a reservation that is accepted
 pub record Given (k : Kept) (d : ℕ) : Type 0 where

@@ -1,10 +1,10 @@
 -- The law of accounts is kept by a posting.
-use Rattle.std.proofs.Common.{◌≡◌, ℕ, ◌<◌, ◌≤◌, Bool, true, false, cond, nat_lt, ◌==◌, List, ◌∷◌, length, take, get_or, Ok, Err, Some, None, Option, refl, sym, ap, ◌∙◌, subst, arith, get_or-take}
+use Rattle.std.proofs.Common.{◌≡◌, ℕ, ◌≤◌, Bool, true, false, List, ◌∷◌, length, take, get_or, Err, Some, None, Option, refl, sym, ap, ◌∙◌, subst, arith, get_or-take}
 use Rattle.terms.specs.Told.{Told, fine}
 use Rattle.terms.specs.Limits.{last_day, last_interval}
 use Rattle.amounts.specs.declared.row.Amounts.{Amounts}
 use Rattle.amounts.specs.Triples.{none}
-use Rattle.amounts.specs.Traces.{Trace, amount}
+use Rattle.amounts.specs.Traces.{Trace}
 use Rattle.runs.specs.declared.work.Work.{Work}
 use Rattle.runs.specs.Works.{WorkedBy}
 use Rattle.books.specs.Kept.{Kept, entry, put}
@@ -13,7 +13,7 @@ use Rattle.books.proofs.Entries.{put_changes}
 use Rattle.accounts.specs.declared.refusal.PostRefusal.{PostRefusal}
 use Rattle.accounts.specs.declared.refusal.PostRefusal.TheVariants.{NotReserved, OtherDay, TooShort, FewRows}
 use Rattle.accounts.specs.Refusals.{numbered, told}
-use Rattle.accounts.specs.Postings.{Posted, posting, posted_by, misfit, settled, less, billed}
+use Rattle.accounts.specs.Postings.{posting, posted_by, misfit, settled, less, billed}
 use Rattle.accounts.specs.Histories.{History, Accounts, effect, took, posts, SlipOut, Known}
 use Rattle.accounts.proofs.Billing.{row_billed}
 use Rattle.accounts.proofs.Effects.{law_stray, law_settled}

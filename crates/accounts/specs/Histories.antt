@@ -5,7 +5,7 @@ use Rattle.terms.specs.Limits.{last_interval}
 use Rattle.amounts.specs.declared.row.Amounts.{Amounts}
 use Rattle.amounts.specs.Sums.{sum_to}
 use Rattle.amounts.specs.Triples.{none, plus, net}
-use Rattle.amounts.specs.Traces.{Trace, amount, shares, Accepted, entities}
+use Rattle.amounts.specs.Traces.{Trace, amount, shares, Accepted}
 use Rattle.books.specs.Kept.{Kept, entry}
 
 -- each call with its day and its answer; a posting also with the trace of the run whose sheet it took, and the bill rows after it

@@ -1,6 +1,5 @@
-use Rattle.std.proofs.Common.{◌≡◌, sym, ap, ◌∙◌, subst, refl}
+use Rattle.std.proofs.Common.{sym, ap, refl}
 use Rattle.terms.specs.Told.{fine}
-use Rattle.accounts.specs.Histories.{SlipOut, reserves}
 use Rattle.accounts.proofs.Keeping.{given_by, reserve_by, reserve_out}
 use Rattle.accounts.proofs.reservation.reserve.Goals as goal
 

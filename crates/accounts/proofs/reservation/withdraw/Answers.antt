@@ -1,5 +1,3 @@
-use Rattle.std.proofs.Common.{◌≡◌, ◌≤◌, sym, subst}
-use Rattle.terms.specs.Limits.{last_day}
 use Rattle.accounts.proofs.Keeping.{withdraw_by, withdraw_known_by}
 use Rattle.accounts.proofs.reservation.withdraw.Goals as goal
 
