@@ -10,7 +10,7 @@ use Rattle.books.specs.Calls.{reserving, lifting}
 use Rattle.books.specs.Refusals.{told}
 use Rattle.accounts.specs.Refusals.{told as post_told}
 use Rattle.accounts.specs.Slips.{given}
-use Rattle.accounts.specs.Postings.{posting}
+use Rattle.accounts.specs.Postings.{posting, said}
 use Rattle.accounts.specs.Histories.{Event, History, reserves, withdraws, posts}
 
 -- a day to be reserved; a slip's day, withdrawn; a slip's day, what the sheet holds, the trace of its run, and the caller's bill rows
@@ -32,12 +32,12 @@ AllLegit (c ∷ cs) = AllLegit cs × Legit c
 abbrev pub event : Kept → Call → Event
 event k (asks d) = reserves d (given d (reserving k d).answer)
 event k (returns d) = withdraws d (told (lifting k d false).answer)
-event k (hands d w t bills) = posts d t (take entities (posting k d w bills).bills) (post_told (posting k d w bills).answer)
+event k (hands d w t bills) = posts d t (take entities (posting k d (said w) bills).bills) (post_told (posting k d (said w) bills).answer)
 
 abbrev pub after : Kept → Call → Kept
 after k (asks d) = (reserving k d).after
 after k (returns d) = (lifting k d false).after
-after k (hands d w t bills) = (posting k d w bills).after
+after k (hands d w t bills) = (posting k d (said w) bills).after
 
 -- what is kept after all the calls on a book that kept k
 unfoldable pub kept_after : Kept → List Call → Kept

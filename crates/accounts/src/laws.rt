@@ -1,9 +1,9 @@
 // What holds of every book's accounts: the check asks for the proofs here.
 ghost use Rattle.std.specs.Prelude.{ℕ, List, []};
 ghost use Rattle.amounts.specs.declared.row.Amounts.{Amounts};
-ghost use Rattle.runs.specs.declared.work.Work.{Work};
 ghost use Rattle.books.specs.Kept.{Kept};
 ghost use Rattle.books.specs.Lists.{new_kept};
+ghost use Rattle.accounts.specs.Postings.{Said};
 ghost use Rattle.accounts.specs.Histories.{Accounts};
 ghost use Rattle.accounts.specs.Calls.{Call, AllLegit, history_of, kept_after};
 ghost use Rattle.accounts.specs.Words.{Posts};
@@ -16,5 +16,5 @@ pub fn accounts_law()
 
 // What a posting does, in words, whatever the book keeps.
 pub fn post_law()
-    ensures { (k : Kept) (d : ℕ) (w : Work) (bills : List Amounts) → Posts k d w bills }
+    ensures { (k : Kept) (d : ℕ) (s : Said) (bills : List Amounts) → Posts k d s bills }
 {}
