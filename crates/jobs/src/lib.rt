@@ -1,0 +1,4 @@
+// Whole jobs: a day is reserved, worked over a source, and posted.
+#![tactic(auto)]
+
+mod days;
