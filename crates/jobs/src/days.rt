@@ -1,5 +1,6 @@
 // Working all intervals of a day over one source.
-ghost use Rattle.std.specs.Prelude.{◌≡◌, false, IfOk, []};
+ghost use Rattle.std.specs.Prelude.{◌≡◌, ◌≤◌, false, IfOk, []};
+ghost use Rattle.terms.specs.Limits.{last_day};
 ghost use Rattle.runs.specs.Works.{WorkedBy, traced};
 ghost use Rattle.jobs.specs.Days.{walked, run_over, day_told, sheet_told};
 
@@ -30,4 +31,25 @@ fn work_intervals<R: Rounding, S: Source>(
         }
     }
     Ok(())
+}
+
+// Opens a run of a day, works it over a source, and closes it.
+pub(crate) fn run_day<R: Rounding + Drop, S: Source>(
+    day: u32,
+    rule: R,
+    source: &S,
+    warnings: &mut [Warning],
+) -> Result<Sheet, IntervalRefusal>
+    requires { day ≤ last_day }
+    ensures told { sheet_told result ≡ (walked (S.Source.table source.now) day warnings.old 96).told }
+    ensures warnings { warnings.new ≡ (walked (S.Source.table source.now) day warnings.old 96).warnings }
+    ensures law { IfOk result (λ s. WorkedBy (run_over day (R.Rounding.rounded rule) 96 (S.Source.table source.now)) s.work) }
+{
+    let mut run = Run::open(RunDay::try_from(day).unwrap(), rule);
+    let worked = work_intervals(&mut run, source, warnings);
+    let sheet = run.close();
+    match worked {
+        Ok(()) => Ok(sheet),
+        Err(refusal) => Err(refusal),
+    }
 }

@@ -2,3 +2,4 @@
 #![tactic(auto)]
 
 mod days;
+pub mod refusal;
