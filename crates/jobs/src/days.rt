@@ -1,5 +1,5 @@
 // Working all intervals of a day over one source.
-ghost use Rattle.std.specs.Prelude.{◌≡◌, ◌≤◌, false, IfOk, []};
+ghost use Rattle.std.specs.Prelude.{◌≡◌, ◌≤◌, false, IfOk, [], length};
 ghost use Rattle.terms.specs.Limits.{last_day};
 ghost use Rattle.runs.specs.Works.{WorkedBy, traced};
 ghost use Rattle.jobs.specs.Days.{walked, run_over, day_told, sheet_told};
@@ -43,6 +43,7 @@ pub(crate) fn run_day<R: Rounding + Drop, S: Source>(
     requires { day ≤ last_day }
     ensures told { sheet_told result ≡ (walked (S.Source.table source.now) day warnings.old 96).told }
     ensures warnings { warnings.new ≡ (walked (S.Source.table source.now) day warnings.old 96).warnings }
+    ensures long { IfOk result (λ s. length s.work.totals ≡ 64) }
     ensures law { IfOk result (λ s. WorkedBy (run_over day (R.Rounding.rounded rule) 96 (S.Source.table source.now)) s.work) }
 {
     let mut run = Run::open(RunDay::try_from(day).unwrap(), rule);

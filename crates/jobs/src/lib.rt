@@ -2,4 +2,5 @@
 #![tactic(auto)]
 
 mod days;
+pub mod job;
 pub mod refusal;
