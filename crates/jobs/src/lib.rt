@@ -2,5 +2,7 @@
 #![tactic(auto)]
 
 mod days;
+pub mod ending;
 pub mod job;
+pub mod lists;
 pub mod refusal;
