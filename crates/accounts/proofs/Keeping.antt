@@ -1,5 +1,5 @@
 -- The law of accounts is kept by each call, over the definitions that the contracts name.
-use Rattle.std.proofs.Common.{◌≡◌, ℕ, ◌≤◌, Bool, true, false, ◌∷◌, Ok, Err, Result, refl, sym, ◌∙◌, subst, arith}
+use Rattle.std.proofs.Common.{◌≡◌, ℕ, ◌≤◌, Bool, true, false, ◌∷◌, Ok, Err, Result, IfOk, refl, sym, ◌∙◌, subst, arith}
 use Rattle.terms.specs.Told.{Told, fine}
 use Rattle.terms.specs.Limits.{last_day}
 use Rattle.amounts.specs.Triples.{none}
@@ -12,19 +12,19 @@ use Rattle.books.specs.Calls.{reserving, lifting}
 use Rattle.books.specs.Laws.{Rising}
 use Rattle.books.proofs.Entries.{entry_day, put_changes, cut_changes}
 use Rattle.books.proofs.Sounds.{zeros_none}
-use Rattle.accounts.specs.Slips.{given}
+use Rattle.accounts.specs.declared.slip.Slip.{Slip}
+use Rattle.accounts.specs.Slips.{told as slip_told, given}
 use Rattle.accounts.specs.Histories.{Event, History, Accounts, Latest, never, run, effect, nothing, took, reserves, withdraws, last, amount_by, is_run, SlipOut, Known}
 use Rattle.accounts.proofs.Effects.{law_nothing, law_gave, law_took, law_stray}
 
 -- a reservation that is accepted
-pub record Given (k : Kept) (d : ℕ) : Type 0 where
-  pub within : d ≤ last_day
+record Given (k : Kept) (d : ℕ) : Type 0 where
   pub was : (entry k d).reserved ≡ false
   pub after : (reserving k d).after ≡ put k (marked (entry k d) true (entry k d).billed)
 
-pub given_by : (k : Kept) (d : ℕ) → (reserving k d).answer ≡ Ok tt → Given k d
+given_by : (k : Kept) (d : ℕ) → (reserving k d).answer ≡ Ok tt → Given k d
 unfolding reserving
-given_by k d h = record { within = grind arith; was = grind arith; after = grind arith }
+given_by k d h = record { was = grind arith; after = grind arith }
 
 not_given : (k : Kept) (d : ℕ) (e : BookRefusal) → (reserving k d).answer ≡ Err e → (reserving k d).after ≡ k
 unfolding reserving
@@ -104,3 +104,15 @@ withdraw_by k l d a a-is l-is rising within h law = rw (a-is, l-is) (withdraw_la
 
 pub withdraw_known_by : (k : Kept) (d : ℕ) (a : Told (Unit {0})) → a ≡ told (lifting k d false).answer → d ≤ last_day → (h : History) → Accounts h k → SlipOut h d → Known a
 withdraw_known_by k d a a-is within h law is = rw a-is (withdraw_known k d h within law is)
+
+-- a slip that is given is of the day that was asked for
+pub slip_day : (d x : ℕ) (r : Result (Unit {0}) BookRefusal) → fine x ≡ given d r → (x ≡ d) × (r ≡ Ok tt)
+slip_day d x (Ok u) e = (cc, refl)
+slip_day d x (Err OutOfRange) e = cc
+slip_day d x (Err Reserved) e = cc
+slip_day d x (Err Full) e = cc
+slip_day d x (Err NotReserved) e = cc
+
+pub out_by : (k : Kept) (d : ℕ) (s : Result Slip BookRefusal) → slip_told s ≡ given d (reserving k d).answer → (h : History) → Accounts h k → IfOk s (λ z. SlipOut (reserves d (slip_told s) ∷ h) z.day)
+out_by k d (Ok z) e h law = let f = slip_day d z.day (reserving k d).answer e in rw f.0 (reserve_out k d h law f.1)
+out_by k d (Err e) is h law = tt

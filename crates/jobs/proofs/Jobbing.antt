@@ -1,9 +1,9 @@
 -- How a job ends.
-use Rattle.std.proofs.Common.{◌≡◌, ℕ, zero, suc, ◌+◌, ◌<◌, ◌≤◌, ◌≢◌, false, List, [], ◌∷◌, ◌++◌, length, take, get_or, ℤ, Ok, Err, Result, inl, inr, refl, sym, ap, ◌∙◌, subst, arith, length-append}
+use Rattle.std.proofs.Common.{◌≡◌, ℕ, zero, suc, ◌<◌, ◌≢◌, false, List, [], ◌∷◌, ◌++◌, length, take, get_or, ℤ, inl, inr, refl, sym, ap, ◌∙◌, subst, arith, length-append}
 use Rattle.std.proofs.lemmas.Bool.{cases_eq}
 use Rattle.std.proofs.lemmas.List.{ext_get_or, get_or_append_left}
 use Rattle.std.proofs.Math.Seq.{get_or-append_seam}
-use Rattle.terms.specs.Told.{Told, fine, refuse}
+use Rattle.terms.specs.Told.{Told, fine}
 use Rattle.terms.specs.Sources.{Table}
 use Rattle.amounts.specs.declared.row.Amounts.{Amounts}
 use Rattle.amounts.specs.Triples.{none}
@@ -21,9 +21,9 @@ use Rattle.books.specs.Calls.{reserving, lifting}
 use Rattle.books.specs.Refusals.{numbered as book_numbered, told as book_told}
 use Rattle.accounts.specs.Refusals.{told as post_told}
 use Rattle.accounts.specs.Slips.{given}
-use Rattle.accounts.specs.Postings.{Said, said, posting}
+use Rattle.accounts.specs.Postings.{said, posting}
 use Rattle.accounts.specs.Histories.{History, Accounts, reserves, withdraws, posts}
-use Rattle.jobs.specs.Days.{Walk, walked, run_over}
+use Rattle.jobs.specs.Days.{walked, run_over}
 use Rattle.jobs.specs.Jobs.{rows_of, said_of, Done, job}
 
 length_rows : (n : ℕ) (t : Trace) → length (rows_of n t) ≡ n
@@ -58,14 +58,6 @@ pub record Comes (j : Done) (k : Kept) (a : Told ℕ) (l : Kept) (bs : List Amou
   pub bills : bs ≡ j.bills
   pub warnings : us ≡ j.warnings
   pub law : (h : History) → Accounts h k → Accounts (j.calls ++ h) l
-
--- a slip is of the day that was asked for
-pub given_day : (d x : ℕ) (r : Result (Unit {0}) BookRefusal) → fine x ≡ given d r → x ≡ d
-given_day d x (Ok u) e = cc
-given_day d x (Err OutOfRange) e = cc
-given_day d x (Err Reserved) e = cc
-given_day d x (Err Full) e = cc
-given_day d x (Err NotReserved) e = cc
 
 module _ (rd : ℤ → ℕ → ℤ) (t : Table) (d : ℕ) (bills : List Amounts) (ws : List Warning) (k m : Kept) (after : m ≡ (reserving k d).after) where
   job_refused : (e : BookRefusal) → book_numbered e ≡ given d (reserving k d).answer → job rd t d bills ws k ≡ record { answer = book_numbered e; kept = (reserving k d).after; bills = bills; warnings = ws; calls = reserves d (book_numbered e) ∷ [] }
@@ -120,8 +112,8 @@ module _ (rd : ℤ → ℕ → ℤ) (t : Table) (d : ℕ) (bills : List Amounts)
   job_stopped FewRows e o = rw (← e, ← o) refl
   job_stopped (Halted s) e o = rw (← e, ← o) refl
 
-  pub stopped : (e : IntervalRefusal) (l : Kept) (us : List Warning) (a : Told (Unit {0})) → fine d ≡ given d (reserving k d).answer → interval_numbered e ≡ (walked t d ws 96).told → us ≡ (walked t d ws 96).warnings → a ≡ book_told (lifting m d false).answer → l ≡ (lifting m d false).after → ((h : History) → Accounts h k → Accounts (reserves d (fine d) ∷ h) m) → ((h : History) → Accounts h m → Accounts (withdraws d a ∷ h) l) → Comes (job rd t d bills ws k) k (interval_numbered e) l bills us
-  stopped e l us a g o u a-is l-is law withdrawn =
+  pub stopped : (e : IntervalRefusal) (l : Kept) (us : List Warning) → fine d ≡ given d (reserving k d).answer → interval_numbered e ≡ (walked t d ws 96).told → us ≡ (walked t d ws 96).warnings → l ≡ (lifting m d false).after → ((h : History) → Accounts h k → Accounts (reserves d (fine d) ∷ h) m) → ((h : History) → Accounts h m → Accounts (withdraws d (book_told (lifting m d false).answer) ∷ h) l) → Comes (job rd t d bills ws k) k (interval_numbered e) l bills us
+  stopped e l us g o u l-is law withdrawn =
       let j = job_stopped e g o in
       let p = ap (λ z. lifting z d false) after in
       rw j (record {
@@ -129,5 +121,5 @@ module _ (rd : ℤ → ℕ → ℤ) (t : Table) (d : ℕ) (bills : List Amounts)
         kept = l-is ∙ ap (λ z. z.after) p;
         bills = refl;
         warnings = u;
-        law = λ h accounts. rw (← p) (rw (← a-is) (withdrawn (reserves d (fine d) ∷ h) (law h accounts)));
+        law = λ h accounts. rw (← p) (withdrawn (reserves d (fine d) ∷ h) (law h accounts));
       })

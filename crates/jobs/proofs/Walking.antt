@@ -1,5 +1,5 @@
 -- Walking through the intervals of a day.
-use Rattle.std.proofs.Common.{◌≡◌, ℕ, zero, suc, ◌+◌, ◌-◌, ◌<◌, ◌≤◌, Bool, true, false, cond, nat_lt, ◌==◌, ◌&&◌, List, [], ◌∷◌, ◌++◌, length, drop, ℤ, Ok, Err, Result, Some, None, Option, refl, sym, ap, ◌∙◌, subst, arith, add-one}
+use Rattle.std.proofs.Common.{◌≡◌, ℕ, zero, suc, ◌+◌, ◌-◌, ◌<◌, Bool, true, false, nat_lt, List, length, ℤ, Ok, Err, Some, None, Option, refl, sym, ap, ◌∙◌, arith, add-one}
 use Rattle.terms.specs.Told.{Told, fine, refuse}
 use Rattle.terms.specs.Sources.{Table}
 use Rattle.intervals.specs.declared.fault.Fault.{Fault}

@@ -1,10 +1,9 @@
 -- All intervals of a day, worked one after the other over one source. Assumes nothing.
-use Rattle.std.specs.Prelude.{ℕ, zero, suc, Bool, cond, List, [], ◌∷◌, ◌++◌, length, drop, ℤ, Some, None, Ok, Err, Option, Result, nat_lt}
+use Rattle.std.specs.Prelude.{ℕ, zero, suc, cond, List, [], ◌∷◌, ◌++◌, length, drop, ℤ, Some, None, Ok, Err, Option, Result, nat_lt}
 use Rattle.terms.specs.Told.{Told, fine, refuse}
 use Rattle.terms.specs.Sources.{Table}
 use Rattle.amounts.specs.Traces.{Trace}
 use Rattle.intervals.specs.declared.fault.Fault.{Fault}
-use Rattle.intervals.specs.declared.interval.Worked.{Worked}
 use Rattle.intervals.specs.declared.warning.Warning.{Warning}
 use Rattle.intervals.specs.Stops.{stop_at}
 use Rattle.intervals.specs.Courses.{course}

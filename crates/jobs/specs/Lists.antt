@@ -1,5 +1,5 @@
 -- A list of jobs for one day, one after the other. Assumes nothing.
-use Rattle.std.specs.Prelude.{ℕ, zero, suc, List, [], ◌∷◌, ◌++◌, ℤ, slice_index_or, slice_set}
+use Rattle.std.specs.Prelude.{ℕ, zero, suc, List, [], ◌++◌, ℤ, slice_index_or, slice_set}
 use Rattle.terms.specs.declared.answer.Answer.TheVariants.{NoCut}
 use Rattle.terms.specs.Told.{Told, fine}
 use Rattle.terms.specs.Sources.{Table}

@@ -1,6 +1,8 @@
 // A job: a day is reserved in a book, worked over a source, and posted.
-ghost use Rattle.std.specs.Prelude.{◌≡◌, ◌++◌};
-ghost use Rattle.accounts.specs.Histories.{History, Accounts};
+ghost use Rattle.std.specs.Prelude.{◌≡◌, false, ◌∷◌, ◌++◌};
+ghost use Rattle.books.specs.Calls.{lifting};
+ghost use Rattle.books.specs.Refusals.{told as book_told};
+ghost use Rattle.accounts.specs.Histories.{History, Accounts, withdraws};
 ghost use Rattle.jobs.specs.Refusals.{told};
 ghost use Rattle.jobs.specs.Jobs.{job};
 
@@ -8,11 +10,24 @@ use crate::days::run_day;
 use crate::refusal::JobRefusal;
 use accounts::posting::post;
 use accounts::reservation::{reserve, withdraw};
+use accounts::slip::Slip;
 use amounts::row::Amounts;
 use books::book::Book;
 use intervals::warning::Warning;
 use rounding::rule::Rounding;
+use runs::refusal::IntervalRefusal;
 use terms::source::Source;
+
+// Withdraws the slip of a job whose day is not worked, and says why it is not.
+fn give_up<B: Book>(book: &mut B, slip: Slip, refusal: IntervalRefusal) -> JobRefusal
+    ensures same { result ≡ JobRefusal.Interval refusal }
+    ensures kept { B.Book.kept book.new ≡ (lifting (B.Book.kept book.old) slip.day false).after }
+    ensures beside { B.Book.beside book.new ≡ B.Book.beside book.old }
+    ensures law { (h : History) → Accounts h (B.Book.kept book.old) → Accounts (withdraws slip.day (book_told (lifting (B.Book.kept book.old) slip.day false).answer) ∷ h) (B.Book.kept book.new) }
+{
+    let _ = withdraw(book, slip);
+    JobRefusal::Interval(refusal)
+}
 
 // Reserves the day, works all its intervals over the source, and posts the sheet; the answer is the sheet's charged shares. Where an interval is
 // refused, the reservation is withdrawn.
@@ -40,9 +55,6 @@ pub fn work_job<B: Book, R: Rounding + Drop, S: Source>(
             Ok(charged) => Ok(charged),
             Err(refusal) => Err(JobRefusal::Posting(refusal)),
         },
-        Err(refusal) => {
-            let _ = withdraw(book, slip);
-            Err(JobRefusal::Interval(refusal))
-        }
+        Err(refusal) => Err(give_up(book, slip, refusal)),
     }
 }

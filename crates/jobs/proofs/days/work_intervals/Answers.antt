@@ -1,4 +1,4 @@
-use Rattle.std.proofs.Common.{◌≡◌, suc, refl, sym, ap, ◌∙◌, arith, add-one}
+use Rattle.std.proofs.Common.{refl, sym, ap, ◌∙◌, add-one}
 use Rattle.terms.specs.Sources.{Table}
 use Rattle.jobs.specs.Days.{Walk, walked, repeated}
 use Rattle.jobs.proofs.Walking.{accepted, still_going, refused}

@@ -1,6 +1,6 @@
 use Rattle.std.proofs.Common.{◌≡◌, ◌++◌, map}
 use Rattle.accounts.specs.Histories.{History, Accounts}
-use Rattle.jobs.specs.Lists.{end_told, begun, jobs, State}
+use Rattle.jobs.specs.Lists.{end_told, begun, jobs}
 use Rattle.jobs.proofs.lists.work_jobs.Given as goal
 
 abbrev pub invariant-loop-index : goal.invariant-loop-index
