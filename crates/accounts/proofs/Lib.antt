@@ -1,0 +1,7 @@
+pub mod Effects
+pub mod Billing
+pub mod Keeping
+pub mod Posts
+pub mod Overlays
+pub mod Calling
+pub mod Wording

@@ -1,0 +1,95 @@
+-- The law of accounts is kept by a posting.
+use Rattle.std.proofs.Common.{◌≡◌, ℕ, ◌<◌, ◌≤◌, Bool, true, false, List, ◌∷◌, length, take, get_or, Err, Some, None, Option, refl, sym, ap, ◌∙◌, subst, arith, get_or-take}
+use Rattle.terms.specs.Told.{Told, fine}
+use Rattle.terms.specs.Limits.{last_day, last_interval}
+use Rattle.amounts.specs.declared.row.Amounts.{Amounts}
+use Rattle.amounts.specs.Triples.{none}
+use Rattle.amounts.specs.Traces.{Trace, amount, shares, Accepted}
+use Rattle.runs.specs.declared.work.Work.{Work}
+use Rattle.runs.specs.Works.{WorkedBy}
+use Rattle.books.specs.Kept.{Kept, entry, put}
+use Rattle.books.specs.Laws.{Rising}
+use Rattle.books.proofs.Entries.{put_changes}
+use Rattle.accounts.specs.declared.refusal.PostRefusal.{PostRefusal}
+use Rattle.accounts.specs.declared.refusal.PostRefusal.TheVariants.{NotReserved, OtherDay, TooShort, FewRows}
+use Rattle.accounts.specs.Refusals.{numbered, told}
+use Rattle.accounts.specs.Postings.{Said, said, posting, posted_by, misfit, settled, less, billed}
+use Rattle.accounts.specs.Histories.{History, Accounts, effect, took, posts, SlipOut, Known}
+use Rattle.accounts.proofs.Billing.{row_billed}
+use Rattle.accounts.proofs.Effects.{law_stray, law_settled}
+use Rattle.accounts.proofs.Keeping.{lift_law, out_reserved}
+
+-- what a sheet says of its run, whose trace is t
+pub record SaidBy (t : Trace) (s : Said) : Type 0 where
+  pub day : s.day ≡ t.day
+  pub intervals : s.intervals ≡ length t.tables
+  pub totals : (q : ℕ) → q < 64 → get_or s.totals q none ≡ amount t q
+  pub charged : s.charged ≡ shares t
+  pub accepted : Accepted t
+
+pub said_by : (t : Trace) (w : Work) → WorkedBy t w → SaidBy t (said w)
+said_by t w by = record { day = by.day; intervals = by.intervals; totals = by.totals; charged = by.charged; accepted = by.accepted }
+
+-- a sheet that fits
+record Fits (d : ℕ) (s : Said) (rows : ℕ) : Type 0 where
+  pub day : s.day ≡ d
+  pub long : last_interval ≤ s.intervals
+  pub room : 64 ≤ rows
+
+fits_by : (d : ℕ) (s : Said) (rows : ℕ) → misfit d s rows ≡ None → Fits d s rows
+fits_by d s rows h = record { day = grind arith; long = grind arith; room = grind arith }
+
+refused_takes : (d : ℕ) (t : Trace) (bills : List Amounts) (e : PostRefusal) → effect (posts d t bills (numbered e)) ≡ took d
+refused_takes d t bills NotReserved = refl
+refused_takes d t bills OtherDay = refl
+refused_takes d t bills TooShort = refl
+refused_takes d t bills FewRows = refl
+
+misfit_known : (d : ℕ) (s : Said) (rows : ℕ) (e : PostRefusal) → misfit d s rows ≡ Some e → Known {X = ℕ} (numbered e)
+misfit_known d s rows NotReserved h = absurd (grind arith)
+misfit_known d s rows OtherDay h = λ n. omega (arith, n)
+misfit_known d s rows TooShort h = λ n. omega (arith, n)
+misfit_known d s rows FewRows h = λ n. omega (arith, n)
+
+module _ (k : Kept) (d : ℕ) (s : Said) (bills : List Amounts) where
+  posting_not : (entry k d).reserved ≡ false → posting k d s bills ≡ record { answer = Err NotReserved; after = k; bills = bills }
+  unfolding posting
+  posting_not r = rw r refl
+
+  posting_held : (entry k d).reserved ≡ true → posting k d s bills ≡ posted_by k d s bills (misfit d s (length bills))
+  unfolding posting
+  posting_held r = rw r refl
+
+  module _ (h : History) (law : Accounts h k) where
+    settled_law : (t : Trace) → SaidBy t s → (entry k d).reserved ≡ true → Fits d s (length bills) → Accounts (posts d t (take 64 (billed 64 s.totals (entry k d).amounts bills)) (fine s.charged) ∷ h) (put k (settled d s.totals))
+    settled_law t by was f =
+        law_settled h k _ d (settled d s.totals) _ t s.charged _ refl law
+        (λ q lt. get_or-take 64 _ q none lt ∙ row_billed 64 q s.totals (entry k d).amounts bills f.room lt ∙ ap (λ z. less z (get_or (entry k d).amounts q none)) (by.totals q lt))
+        (put_changes k d (settled d s.totals) refl) was refl refl by.totals by.charged
+        (record { same = sym by.day ∙ f.day; long = rw (← by.intervals) f.long; accepted = by.accepted })
+
+    pub post_law : Rising k.held → d ≤ last_day → (t : Trace) → SaidBy t s → Accounts (posts d t (take 64 (posting k d s bills).bills) (told (posting k d s bills).answer) ∷ h) (posting k d s bills).after
+    post_law rising within t by = go (entry k d).reserved refl
+      where
+        fit : (m : Option PostRefusal) → misfit d s (length bills) ≡ m → (entry k d).reserved ≡ true → Accounts (posts d t (take 64 (posted_by k d s bills m).bills) (told (posted_by k d s bills m).answer) ∷ h) (posted_by k d s bills m).after
+        fit (Some e) is r = lift_law k d h _ (refused_takes d t (take 64 bills) e) rising within law
+        fit None is r = settled_law t by r (fits_by d s (length bills) is)
+
+        go : (r : Bool) → (entry k d).reserved ≡ r → Accounts (posts d t (take 64 (posting k d s bills).bills) (told (posting k d s bills).answer) ∷ h) (posting k d s bills).after
+        go false r = subst (λ p. Accounts (posts d t (take 64 p.bills) (told p.answer) ∷ h) p.after) (sym (posting_not r)) (law_stray h k d _ refl law r)
+        go true r = subst (λ p. Accounts (posts d t (take 64 p.bills) (told p.answer) ∷ h) p.after) (sym (posting_held r)) (fit (misfit d s (length bills)) refl r)
+
+    pub post_known : SlipOut h d → Known (told (posting k d s bills).answer)
+    post_known is = subst (λ p. Known (told p.answer)) (sym (posting_held (out_reserved k d h law is))) (by (misfit d s (length bills)) refl)
+      where
+        by : (m : Option PostRefusal) → misfit d s (length bills) ≡ m → Known (told (posted_by k d s bills m).answer)
+        by (Some e) m = misfit_known d s (length bills) e m
+        by None m = tt
+
+-- the same where the answer, what is kept and the bills are known by equations
+module _ (k : Kept) (d : ℕ) (w : Work) (bills : List Amounts) (a : Told ℕ) (a-is : a ≡ told (posting k d (said w) bills).answer) where
+  pub post_by : (l : Kept) (after : List Amounts) → l ≡ (posting k d (said w) bills).after → after ≡ (posting k d (said w) bills).bills → Rising k.held → d ≤ last_day → (h : History) (t : Trace) → Accounts h k → WorkedBy t w → Accounts (posts d t (take 64 after) a ∷ h) l
+  post_by l after l-is b-is rising within h t law by = rw (a-is, l-is, b-is) (post_law k d (said w) bills h law rising within t (said_by t w by))
+
+  pub post_known_by : (h : History) → Accounts h k → SlipOut h d → Known a
+  post_known_by h law is = rw a-is (post_known k d (said w) bills h law is)

@@ -1,0 +1,7 @@
+pub mod Refusals
+pub mod Slips
+pub mod Postings
+pub mod Settlings
+pub mod Histories
+pub mod Calls
+pub mod Words

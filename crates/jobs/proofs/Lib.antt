@@ -1,0 +1,3 @@
+pub mod Walking
+pub mod Jobbing
+pub mod Listing

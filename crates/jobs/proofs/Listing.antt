@@ -1,0 +1,48 @@
+-- Jobs one after the other.
+use Rattle.std.proofs.Common.{◌≡◌, ℕ, suc, ◌+◌, List, ◌++◌, get_or, set, ℤ, refl, sym, ap, ◌∙◌, add-one}
+use Rattle.std.proofs.lemmas.List.{append_assoc}
+use Rattle.terms.specs.Told.{Told}
+use Rattle.terms.specs.Sources.{Table}
+use Rattle.amounts.specs.declared.row.Amounts.{Amounts}
+use Rattle.intervals.specs.declared.warning.Warning.{Warning}
+use Rattle.books.specs.Kept.{Kept}
+use Rattle.accounts.specs.Histories.{History, Accounts}
+use Rattle.jobs.specs.Jobs.{Done, job}
+use Rattle.jobs.specs.Lists.{End, State, begun, nothing_known, no_end, after_job, jobs}
+
+-- a book that kept k₀ and keeps k, the ends and the warnings are those of the state
+pub record Stands (s : State) (k₀ k : Kept) (es : List End) (ws : List Warning) : Type 0 where
+  pub kept : k ≡ s.kept
+  pub ends : es ≡ s.ends
+  pub warnings : ws ≡ s.warnings
+  pub law : (h : History) → Accounts h k₀ → Accounts (s.calls ++ h) k
+
+module _ (rd : ℤ → ℕ → ℤ) (tables : List Table) (d : ℕ) where
+  pub stands_none : (k : Kept) (es : List End) (ws : List Warning) → Stands (jobs rd tables d (begun k es ws) 0) k k es ws
+  unfolding jobs
+  stands_none k es ws = record { kept = refl; ends = refl; warnings = refl; law = λ h a. a }
+
+  -- one job more
+  module _ (s : State) (n : ℕ) (k₀ k : Kept) (es : List End) (ws : List Warning) (so : Stands (jobs rd tables d s n) k₀ k es ws) (t : Table) (t-is : t ≡ get_or tables n nothing_known) (bs : List Amounts) (bs-is : bs ≡ (get_or es n no_end).bills) where
+    next : Done
+    next = job rd (get_or tables n nothing_known) d (get_or (jobs rd tables d s n).ends n no_end).bills (jobs rd tables d s n).warnings (jobs rd tables d s n).kept
+
+    same : job rd t d bs ws k ≡ job rd (get_or tables n nothing_known) d (get_or (jobs rd tables d s n).ends n no_end).bills (jobs rd tables d s n).warnings (jobs rd tables d s n).kept
+    same =
+        ap (λ z. job rd z d bs ws k) t-is
+        ∙ ap (λ z. job rd (get_or tables n nothing_known) d z ws k) (bs-is ∙ ap (λ z. (get_or z n no_end).bills) so.ends)
+        ∙ ap (λ z. job rd (get_or tables n nothing_known) d (get_or (jobs rd tables d s n).ends n no_end).bills z k) so.warnings
+        ∙ ap (λ z. job rd (get_or tables n nothing_known) d (get_or (jobs rd tables d s n).ends n no_end).bills (jobs rd tables d s n).warnings z) so.kept
+
+    jobs_next : jobs rd tables d s (suc n) ≡ after_job (jobs rd tables d s n) n (job rd t d bs ws k)
+    unfolding jobs
+    jobs_next = ap (λ z. after_job (jobs rd tables d s n) n z) (sym same)
+
+    pub stands_more : (a : Told ℕ) (l : Kept) (cs : List Amounts) (us : List Warning) → a ≡ (job rd t d bs ws k).answer → l ≡ (job rd t d bs ws k).kept → cs ≡ (job rd t d bs ws k).bills → us ≡ (job rd t d bs ws k).warnings → ((h : History) → Accounts h k → Accounts ((job rd t d bs ws k).calls ++ h) l) → Stands (jobs rd tables d s (n + 1)) k₀ l (set es n (record { answer = a; bills = cs })) us
+    stands_more a l cs us a-is l-is c-is u-is law =
+        rw add-one (rw jobs_next (record {
+          kept = l-is;
+          ends = ap (λ z. set z n (record { answer = a; bills = cs })) so.ends ∙ ap (λ z. set (jobs rd tables d s n).ends n (record { answer = z; bills = cs })) a-is ∙ ap (λ z. set (jobs rd tables d s n).ends n (record { answer = (job rd t d bs ws k).answer; bills = z })) c-is;
+          warnings = u-is;
+          law = λ h accounts. rw append_assoc (law ((jobs rd tables d s n).calls ++ h) (so.law h accounts));
+        }))

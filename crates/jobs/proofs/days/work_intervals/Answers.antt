@@ -1,0 +1,41 @@
+use Rattle.std.proofs.Common.{refl, sym, ap, ◌∙◌, add-one}
+use Rattle.terms.specs.Sources.{Table}
+use Rattle.jobs.specs.Days.{Walk, walked, repeated}
+use Rattle.jobs.proofs.Walking.{accepted, still_going, refused}
+use Rattle.jobs.proofs.days.work_intervals.Goals as goal
+
+pub loop-worked-init : goal.loop-worked-init
+unfolding walked repeated
+loop-worked-init g c = record { going = c.requires.going; rule = refl; walked = refl; law = c.requires.law }
+
+pub loop-worked-preserved : goal.loop-worked-preserved
+unfolding repeated
+loop-worked-preserved g c =
+    let now = c.loop-worked.invariant in
+    let said = c.in_default.ensures in
+    let t : Table = g.S.Source.table c.args.source.now in
+    let rd = g.R.Rounding.rounded c.args.run.now.rule in
+    let y = c.args.run.now.work.day in
+    let n = c.loop-worked.worked in
+    let answer = simp now.rule at said.answer in
+    let law = simp (said.rule, now.rule) at (said.law y (repeated n t)) in
+    record {
+      going = said.stopped ∙ still_going t rd y n c.args.warnings.now c.loop-worked.warnings c.interval.new.warnings c.loop-worked.run.work c.loop-worked.run.stopped now.walked now.law c.loop-worked-test.true now.going c.in_default.field-0 answer;
+      rule = said.rule ∙ now.rule;
+      walked = accepted t rd y n c.args.warnings.now c.loop-worked.warnings c.interval.new.warnings c.loop-worked.run.work c.loop-worked.run.stopped now.walked now.law c.loop-worked-test.true now.going c.in_default.field-0 answer said.warnings;
+      law = rw add-one (law now.law);
+    }
+
+pub returns-in-Err-clause-told : goal.returns-in-Err-clause-told
+returns-in-Err-clause-told g c =
+    let now = c.loop-worked.invariant in
+    let said = c.in-Err.ensures in
+    let answer = simp now.rule at said.answer in
+    sym (ap (λ (w : Walk). w.told) (refused (g.S.Source.table c.args.source.now) (g.R.Rounding.rounded c.args.run.now.rule) c.args.run.now.work.day c.loop-worked.worked c.args.warnings.now c.loop-worked.warnings c.interval.new.warnings c.loop-worked.run.work c.loop-worked.run.stopped now.walked now.law c.loop-worked-test.true now.going c.in-Err.refusal answer said.warnings))
+
+pub returns-in-Err-clause-warnings : goal.returns-in-Err-clause-warnings
+returns-in-Err-clause-warnings g c =
+    let now = c.loop-worked.invariant in
+    let said = c.in-Err.ensures in
+    let answer = simp now.rule at said.answer in
+    sym (ap (λ (w : Walk). w.warnings) (refused (g.S.Source.table c.args.source.now) (g.R.Rounding.rounded c.args.run.now.rule) c.args.run.now.work.day c.loop-worked.worked c.args.warnings.now c.loop-worked.warnings c.interval.new.warnings c.loop-worked.run.work c.loop-worked.run.stopped now.walked now.law c.loop-worked-test.true now.going c.in-Err.refusal answer said.warnings))

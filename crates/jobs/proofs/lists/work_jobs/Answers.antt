@@ -1,0 +1,33 @@
+use Rattle.std.proofs.Common.{◌<◌, [], Ok, length, map, get_or, refl, sym, ap, ◌∙◌, arith}
+use Rattle.std.proofs.lemmas.List.{get_or-map, map-set}
+use Rattle.std.proofs.Math.ListN.{get_or-map as get_or-map_default}
+use Rattle.jobs.specs.declared.ending.JobEnd.{JobEnd}
+use Rattle.jobs.specs.Lists.{End, end_told, begun, nothing_known}
+use Rattle.jobs.proofs.Listing.{stands_none, stands_more}
+use Rattle.jobs.proofs.lists.work_jobs.Goals as goal
+
+pub loop-index-init : goal.loop-index-init
+loop-index-init g c =
+    let s = stands_none (g.R.Rounding.rounded c.args.rule) (map g.S.Source.table c.args.sources.now) c.args.day (g.B.Book.kept c.args.book.now) (map end_told c.args.ends.now) c.args.warnings.now in
+    record { kept = s.kept; beside = refl; ends = s.ends; warnings = s.warnings; law = s.law }
+
+pub loop-index-preserved : goal.loop-index-preserved
+loop-index-preserved g c =
+    let now = c.loop-index.invariant in
+    let w = c.work_to.ensures in
+    let n = c.loop-index.index in
+    let source = c.index-sources-index in
+    let shorter = c.min-count.ensures in
+    let within : n < length c.args.sources.now = omega arith in
+    let blank : JobEnd = record { answer = Ok 0; bills = [] } in
+    let s = stands_more (g.R.Rounding.rounded c.args.rule) (map g.S.Source.table c.args.sources.now) c.args.day (begun (g.B.Book.kept c.args.book.now) (map end_told c.args.ends.now) c.args.warnings.now) n (g.B.Book.kept c.args.book.now) (g.B.Book.kept c.loop-index.book) (map end_told c.loop-index.ends) c.loop-index.warnings (record { kept = now.kept; ends = now.ends; warnings = now.warnings; law = now.law })
+    (g.S.Source.table source.result) (ap g.S.Source.table source.is ∙ sym (get_or-map g.S.Source.table c.args.sources.now n source.result nothing_known within))
+    (get_or c.loop-index.ends n blank).bills (ap (λ (z : End). z.bills) (sym (get_or-map_default end_told c.loop-index.ends n blank)))
+    _ _ _ _ w.answer w.kept w.bills w.warnings w.law in
+    record {
+      kept = s.kept;
+      beside = w.beside ∙ now.beside;
+      ends = map-set end_told c.loop-index.ends n c.work_to.new.end ∙ s.ends;
+      warnings = s.warnings;
+      law = s.law;
+    }

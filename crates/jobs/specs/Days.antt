@@ -1,0 +1,61 @@
+-- All intervals of a day, worked one after the other over one source. Assumes nothing.
+use Rattle.std.specs.Prelude.{ℕ, zero, suc, cond, List, [], ◌∷◌, ◌++◌, length, drop, ℤ, Some, None, Ok, Err, Option, Result, nat_lt}
+use Rattle.terms.specs.Told.{Told, fine, refuse}
+use Rattle.terms.specs.Sources.{Table}
+use Rattle.amounts.specs.Traces.{Trace}
+use Rattle.intervals.specs.declared.fault.Fault.{Fault}
+use Rattle.intervals.specs.declared.warning.Warning.{Warning}
+use Rattle.intervals.specs.Stops.{stop_at}
+use Rattle.intervals.specs.Courses.{course}
+use Rattle.runs.specs.declared.refusal.IntervalRefusal.{IntervalRefusal}
+use Rattle.runs.specs.declared.refusal.IntervalRefusal.TheVariants.{FewRows, Halted}
+use Rattle.runs.specs.declared.sheet.Sheet.{Sheet}
+use Rattle.runs.specs.Refusals.{numbered}
+use Rattle.runs.specs.Works.{traced}
+
+-- whether all is worked so far, or what an interval was refused with; and the list of warnings
+pub record Walk : Type 0 where
+  pub told : Told (Unit {0})
+  pub warnings : List Warning
+
+abbrev told_by : ℕ → ℕ → ℕ → Option Fault → Told (Unit {0})
+told_by y i n None = fine tt
+told_by y i n (Some f) = numbered (Halted (stop_at y i n f))
+
+-- what the interval that is due ends with: it is refused where the list has too few rows, and where something that is asked stops the run
+abbrev pub turn : Table → ℕ → ℕ → ℕ → Told (Unit {0})
+turn t y i rows = cond (nat_lt rows 256) (numbered FewRows) (told_by y i (length (course t y i).rows) (course t y i).fault)
+
+-- its warning rows stand in front of the list, and the others stay
+abbrev pub noted : Table → ℕ → ℕ → List Warning → List Warning
+noted t y i ws = cond (nat_lt (length ws) 256) ws ((course t y i).rows ++ drop (length (course t y i).rows) ws)
+
+-- after a refused interval nothing more is worked
+abbrev step_by : Table → ℕ → ℕ → Walk → Told (Unit {0}) → Walk
+step_by t y i w (fine x) = record { told = turn t y i (length w.warnings); warnings = noted t y i w.warnings }
+step_by t y i w (refuse n vs) = w
+
+abbrev pub step : Table → ℕ → ℕ → Walk → Walk
+step t y i w = step_by t y i w w.told
+
+-- the first n intervals of day y, over a source with this table
+unfoldable pub walked : Table → ℕ → List Warning → ℕ → Walk
+walked t y ws zero = record { told = fine tt; warnings = ws }
+walked t y ws (suc n) = step t y (suc n) (walked t y ws n)
+
+-- one table for each of n intervals
+unfoldable pub repeated : ℕ → Table → List Table
+repeated zero t = []
+repeated (suc n) t = t ∷ repeated n t
+
+-- the trace of a run of day y, worked in n intervals over one source
+abbrev pub run_over : ℕ → (ℤ → ℕ → ℤ) → ℕ → Table → Trace
+run_over y rounded n t = traced y rounded (repeated n t)
+
+abbrev pub day_told : Result (Unit {0}) IntervalRefusal → Told (Unit {0})
+day_told (Ok x) = fine tt
+day_told (Err e) = numbered e
+
+abbrev pub sheet_told : Result Sheet IntervalRefusal → Told (Unit {0})
+sheet_told (Ok s) = fine tt
+sheet_told (Err e) = numbered e

@@ -1,0 +1,62 @@
+-- A job: a day is reserved, worked over a source, and posted. Assumes nothing.
+use Rattle.std.specs.Prelude.{ℕ, zero, suc, false, List, [], ◌∷◌, ◌++◌, length, take, ℤ}
+use Rattle.terms.specs.Told.{Told, fine, refuse}
+use Rattle.terms.specs.Sources.{Table}
+use Rattle.terms.specs.Limits.{last_interval}
+use Rattle.amounts.specs.declared.row.Amounts.{Amounts}
+use Rattle.amounts.specs.Traces.{Trace, amount, shares, entities}
+use Rattle.intervals.specs.declared.warning.Warning.{Warning}
+use Rattle.books.specs.Kept.{Kept}
+use Rattle.books.specs.Calls.{reserving, lifting}
+use Rattle.books.specs.Refusals.{told as book_told}
+use Rattle.accounts.specs.Refusals.{told as post_told}
+use Rattle.accounts.specs.Slips.{given}
+use Rattle.accounts.specs.Postings.{Said, posting}
+use Rattle.accounts.specs.Histories.{History, reserves, withdraws, posts}
+use Rattle.jobs.specs.Days.{walked, run_over}
+
+-- the first n entities' amounts by the formulas
+unfoldable pub rows_of : ℕ → Trace → List Amounts
+rows_of zero t = []
+rows_of (suc n) t = rows_of n t ++ (amount t n ∷ [])
+
+-- what the sheet of a run says, by the formulas over the run's trace
+abbrev pub said_of : Trace → Said
+said_of t = record { day = t.day; intervals = length t.tables; charged = shares t; totals = rows_of entities t }
+
+-- a job's answer, what is kept after it, the bill rows and the list of warnings after it, and what was called on the book, the newest call first
+pub record Done : Type 0 where
+  pub answer : Told ℕ
+  pub kept : Kept
+  pub bills : List Amounts
+  pub warnings : List Warning
+  pub calls : History
+
+module _ (rounded : ℤ → ℕ → ℤ) (t : Table) (d : ℕ) (bills : List Amounts) (ws : List Warning) where
+  -- the day as it ended, all intervals worked or one refused; the book keeps k, where the day was reserved
+  abbrev ended_by : Kept → Told (Unit {0}) → Done
+  ended_by k (fine x) = record {
+    answer = post_told (posting k d (said_of (run_over d rounded last_interval t)) bills).answer;
+    kept = (posting k d (said_of (run_over d rounded last_interval t)) bills).after;
+    bills = (posting k d (said_of (run_over d rounded last_interval t)) bills).bills;
+    warnings = (walked t d ws last_interval).warnings;
+    calls = posts d (run_over d rounded last_interval t) (take entities (posting k d (said_of (run_over d rounded last_interval t)) bills).bills) (post_told (posting k d (said_of (run_over d rounded last_interval t)) bills).answer) ∷ reserves d (fine d) ∷ [];
+  }
+  ended_by k (refuse n vs) = record {
+    answer = refuse n vs;
+    kept = (lifting k d false).after;
+    bills = bills;
+    warnings = (walked t d ws last_interval).warnings;
+    calls = withdraws d (book_told (lifting k d false).answer) ∷ reserves d (fine d) ∷ [];
+  }
+
+  abbrev pub ended : Kept → Done
+  ended k = ended_by k (walked t d ws last_interval).told
+
+  abbrev job_by : Kept → Told ℕ → Done
+  job_by k (fine x) = ended (reserving k d).after
+  job_by k (refuse n vs) = record { answer = refuse n vs; kept = (reserving k d).after; bills = bills; warnings = ws; calls = reserves d (refuse n vs) ∷ [] }
+
+  -- A JOB on a book that keeps k
+  unfoldable pub job : Kept → Done
+  job k = job_by k (given d (reserving k d).answer)

@@ -1,0 +1,4 @@
+pub mod Days
+pub mod Refusals
+pub mod Jobs
+pub mod Lists

@@ -1,0 +1,60 @@
+// A job: a day is reserved in a book, worked over a source, and posted.
+ghost use Rattle.std.specs.Prelude.{◌≡◌, false, ◌∷◌, ◌++◌};
+ghost use Rattle.books.specs.Calls.{lifting};
+ghost use Rattle.books.specs.Refusals.{told as book_told};
+ghost use Rattle.accounts.specs.Histories.{History, Accounts, withdraws};
+ghost use Rattle.jobs.specs.Refusals.{told};
+ghost use Rattle.jobs.specs.Jobs.{job};
+
+use crate::days::run_day;
+use crate::refusal::JobRefusal;
+use accounts::posting::post;
+use accounts::reservation::{reserve, withdraw};
+use accounts::slip::Slip;
+use amounts::row::Amounts;
+use books::book::Book;
+use intervals::warning::Warning;
+use rounding::rule::Rounding;
+use runs::refusal::IntervalRefusal;
+use terms::source::Source;
+
+// Withdraws the slip of a job whose day is not worked, and says why it is not.
+fn give_up<B: Book>(book: &mut B, slip: Slip, refusal: IntervalRefusal) -> JobRefusal
+    ensures same { result ≡ JobRefusal.Interval refusal }
+    ensures kept { B.Book.kept book.new ≡ (lifting (B.Book.kept book.old) slip.day false).after }
+    ensures beside { B.Book.beside book.new ≡ B.Book.beside book.old }
+    ensures law { (h : History) → Accounts h (B.Book.kept book.old) → Accounts (withdraws slip.day (book_told (lifting (B.Book.kept book.old) slip.day false).answer) ∷ h) (B.Book.kept book.new) }
+{
+    let _ = withdraw(book, slip);
+    JobRefusal::Interval(refusal)
+}
+
+// Reserves the day, works all its intervals over the source, and posts the sheet; the answer is the sheet's charged shares. Where an interval is
+// refused, the reservation is withdrawn.
+pub fn work_job<B: Book, R: Rounding + Drop, S: Source>(
+    book: &mut B,
+    day: u32,
+    rule: R,
+    source: &S,
+    warnings: &mut [Warning],
+    bills: &mut [Amounts],
+) -> Result<u32, JobRefusal>
+    ensures answer { told result ≡ (job (R.Rounding.rounded rule) (S.Source.table source.now) day bills.old warnings.old (B.Book.kept book.old)).answer }
+    ensures kept { B.Book.kept book.new ≡ (job (R.Rounding.rounded rule) (S.Source.table source.now) day bills.old warnings.old (B.Book.kept book.old)).kept }
+    ensures beside { B.Book.beside book.new ≡ B.Book.beside book.old }
+    ensures bills { bills.new ≡ (job (R.Rounding.rounded rule) (S.Source.table source.now) day bills.old warnings.old (B.Book.kept book.old)).bills }
+    ensures warnings { warnings.new ≡ (job (R.Rounding.rounded rule) (S.Source.table source.now) day bills.old warnings.old (B.Book.kept book.old)).warnings }
+    ensures law { (h : History) → Accounts h (B.Book.kept book.old) → Accounts ((job (R.Rounding.rounded rule) (S.Source.table source.now) day bills.old warnings.old (B.Book.kept book.old)).calls ++ h) (B.Book.kept book.new) }
+{
+    let slip = match reserve(book, day) {
+        Ok(slip) => slip,
+        Err(refusal) => return Err(JobRefusal::Reservation(refusal)),
+    };
+    match run_day(slip.day(), rule, source, warnings) {
+        Ok(sheet) => match post(book, slip, &sheet, bills) {
+            Ok(charged) => Ok(charged),
+            Err(refusal) => Err(JobRefusal::Posting(refusal)),
+        },
+        Err(refusal) => Err(give_up(book, slip, refusal)),
+    }
+}
