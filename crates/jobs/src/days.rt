@@ -4,6 +4,7 @@ ghost use Rattle.terms.specs.Limits.{last_day};
 ghost use Rattle.runs.specs.Works.{WorkedBy, traced};
 ghost use Rattle.jobs.specs.Days.{walked, run_over, day_told, sheet_told};
 
+use crate::watch::Watch;
 use intervals::warning::Warning;
 use rounding::rule::Rounding;
 use runs::day::RunDay;
@@ -14,10 +15,11 @@ use terms::question::LAST_INTERVAL;
 use terms::source::Source;
 
 // Works the intervals of an open run in order, until one is refused.
-fn work_intervals<R: Rounding, S: Source>(
+fn work_intervals<R: Rounding, S: Source, W: Watch>(
     run: &mut Run<R>,
     source: &S,
     warnings: &mut [Warning],
+    watch: &mut W,
 ) -> Result<(), IntervalRefusal>
     requires going { run.old.stopped ≡ false }
     requires law { WorkedBy (traced run.old.work.day (R.Rounding.rounded run.old.rule) []) run.old.work }
@@ -26,19 +28,21 @@ fn work_intervals<R: Rounding, S: Source>(
     ensures law { IfOk result (λ _. WorkedBy (run_over run.old.work.day (R.Rounding.rounded run.old.rule) 96 (S.Source.table source.now)) run.new.work) }
 {
     for worked in 0..LAST_INTERVAL {
-        if let Err(refusal) = run.interval(source, worked + 1, warnings) {
-            return Err(refusal);
+        match run.interval(source, worked + 1, warnings) {
+            Ok(done) => watch.worked(worked + 1, warnings, done.warnings),
+            Err(refusal) => return Err(refusal),
         }
     }
     Ok(())
 }
 
 // Opens a run of a day, works it over a source, and closes it.
-pub(crate) fn run_day<R: Rounding + Drop, S: Source>(
+pub(crate) fn run_day<R: Rounding + Drop, S: Source, W: Watch>(
     day: u32,
     rule: R,
     source: &S,
     warnings: &mut [Warning],
+    watch: &mut W,
 ) -> Result<Sheet, IntervalRefusal>
     requires { day ≤ last_day }
     ensures told { sheet_told result ≡ (walked (S.Source.table source.now) day warnings.old 96).told }
@@ -47,7 +51,7 @@ pub(crate) fn run_day<R: Rounding + Drop, S: Source>(
     ensures law { IfOk result (λ s. WorkedBy (run_over day (R.Rounding.rounded rule) 96 (S.Source.table source.now)) s.work) }
 {
     let mut run = Run::open(RunDay::try_from(day).unwrap(), rule);
-    let worked = work_intervals(&mut run, source, warnings);
+    let worked = work_intervals(&mut run, source, warnings, watch);
     let sheet = run.close();
     match worked {
         Ok(()) => Ok(sheet),

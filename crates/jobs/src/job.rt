@@ -8,6 +8,7 @@ ghost use Rattle.jobs.specs.Jobs.{job};
 
 use crate::days::run_day;
 use crate::refusal::JobRefusal;
+use crate::watch::Watch;
 use accounts::posting::post;
 use accounts::reservation::{reserve, withdraw};
 use accounts::slip::Slip;
@@ -31,13 +32,14 @@ fn give_up<B: Book>(book: &mut B, slip: Slip, refusal: IntervalRefusal) -> JobRe
 
 // Reserves the day, works all its intervals over the source, and posts the sheet; the answer is the sheet's charged shares. Where an interval is
 // refused, the reservation is withdrawn.
-pub fn work_job<B: Book, R: Rounding + Drop, S: Source>(
+pub fn work_job<B: Book, R: Rounding + Drop, S: Source, W: Watch>(
     book: &mut B,
     day: u32,
     rule: R,
     source: &S,
     warnings: &mut [Warning],
     bills: &mut [Amounts],
+    watch: &mut W,
 ) -> Result<u32, JobRefusal>
     ensures answer { told result ≡ (job (R.Rounding.rounded rule) (S.Source.table source.now) day bills.old warnings.old (B.Book.kept book.old)).answer }
     ensures kept { B.Book.kept book.new ≡ (job (R.Rounding.rounded rule) (S.Source.table source.now) day bills.old warnings.old (B.Book.kept book.old)).kept }
@@ -50,7 +52,7 @@ pub fn work_job<B: Book, R: Rounding + Drop, S: Source>(
         Ok(slip) => slip,
         Err(refusal) => return Err(JobRefusal::Reservation(refusal)),
     };
-    match run_day(slip.day(), rule, source, warnings) {
+    match run_day(slip.day(), rule, source, warnings, watch) {
         Ok(sheet) => match post(book, slip, &sheet, bills) {
             Ok(charged) => Ok(charged),
             Err(refusal) => Err(JobRefusal::Posting(refusal)),

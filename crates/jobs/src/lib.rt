@@ -6,3 +6,4 @@ pub mod ending;
 pub mod job;
 pub mod lists;
 pub mod refusal;
+pub mod watch;

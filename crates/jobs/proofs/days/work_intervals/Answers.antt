@@ -12,7 +12,7 @@ pub loop-worked-preserved : goal.loop-worked-preserved
 unfolding repeated
 loop-worked-preserved g c =
     let now = c.loop-worked.invariant in
-    let said = c.in_default.ensures in
+    let said = c.in-Ok.ensures in
     let t : Table = g.S.Source.table c.args.source.now in
     let rd = g.R.Rounding.rounded c.args.run.now.rule in
     let y = c.args.run.now.work.day in
@@ -20,9 +20,9 @@ loop-worked-preserved g c =
     let answer = simp now.rule at said.answer in
     let law = simp (said.rule, now.rule) at (said.law y (repeated n t)) in
     record {
-      going = said.stopped ∙ still_going t rd y n c.args.warnings.now c.loop-worked.warnings c.interval.new.warnings c.loop-worked.run.work c.loop-worked.run.stopped now.walked now.law c.loop-worked-test.true now.going c.in_default.field-0 answer;
+      going = said.stopped ∙ still_going t rd y n c.args.warnings.now c.loop-worked.warnings c.interval.new.warnings c.loop-worked.run.work c.loop-worked.run.stopped now.walked now.law c.loop-worked-test.true now.going c.in-Ok.done answer;
       rule = said.rule ∙ now.rule;
-      walked = accepted t rd y n c.args.warnings.now c.loop-worked.warnings c.interval.new.warnings c.loop-worked.run.work c.loop-worked.run.stopped now.walked now.law c.loop-worked-test.true now.going c.in_default.field-0 answer said.warnings;
+      walked = accepted t rd y n c.args.warnings.now c.loop-worked.warnings c.interval.new.warnings c.loop-worked.run.work c.loop-worked.run.stopped now.walked now.law c.loop-worked-test.true now.going c.in-Ok.done answer said.warnings;
       law = rw add-one (law now.law);
     }
 

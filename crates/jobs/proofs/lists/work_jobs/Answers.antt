@@ -1,9 +1,11 @@
-use Rattle.std.proofs.Common.{◌<◌, [], Ok, length, map, get_or, refl, sym, ap, ◌∙◌, arith}
-use Rattle.std.proofs.lemmas.List.{get_or-map, map-set}
+use Rattle.std.proofs.Common.{◌≡◌, ℕ, ◌<◌, [], Ok, length, map, get_or, refl, sym, ap, ◌∙◌, arith, subst}
+use Rattle.std.proofs.lemmas.List.{get_or-map, map-set, append-nil}
 use Rattle.std.proofs.Math.ListN.{get_or-map as get_or-map_default}
 use Rattle.jobs.specs.declared.ending.JobEnd.{JobEnd}
-use Rattle.jobs.specs.Lists.{End, end_told, begun, nothing_known}
+use Rattle.jobs.specs.Lists.{End, end_told, begun, jobs, nothing_known}
 use Rattle.jobs.proofs.Listing.{stands_none, stands_more}
+use Rattle.accounts.specs.Histories.{History, Accounts}
+use Rattle.accounts.proofs.Effects.{law_new}
 use Rattle.jobs.proofs.lists.work_jobs.Goals as goal
 
 pub loop-index-init : goal.loop-index-init
@@ -31,3 +33,11 @@ loop-index-preserved g c =
       warnings = s.warnings;
       law = s.law;
     }
+
+pub returns-clause-new_book : goal.returns-clause-new_book
+returns-clause-new_book g c n e =
+    let at_end : c.loop-index.index ≡ c.min-count.result = grind arith in
+    let first : Accounts [] (g.B.Book.kept c.args.book.now) = subst (λ k. Accounts [] k) (sym e) (law_new n) in
+    let s = begun (g.B.Book.kept c.args.book.now) (map end_told c.args.ends.now) c.args.warnings.now in
+    let calls : ℕ → History = λ m. (jobs (g.R.Rounding.rounded c.args.rule) (map g.S.Source.table c.args.sources.now) c.args.day s m).calls in
+    subst (λ m. Accounts (calls m) (g.B.Book.kept c.loop-index.book)) at_end (subst (λ h. Accounts h (g.B.Book.kept c.loop-index.book)) (append-nil (calls c.loop-index.index)) (c.loop-index.invariant.law [] first))
