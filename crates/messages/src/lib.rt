@@ -9,5 +9,6 @@ mod quotes;
 pub mod refused;
 pub mod stopped;
 pub mod table;
+pub mod unposted;
 mod values;
 pub mod warned;

@@ -7,6 +7,7 @@ mod console;
 mod load;
 mod new_book;
 mod options;
+mod post;
 mod save;
 mod script;
 mod sheet;

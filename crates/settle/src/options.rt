@@ -1,4 +1,5 @@
-// The options of `settle work`.
+// The options of `settle work` and `settle post`.
+use crate::words::{NoNumber, number_of};
 use rounding::rules::{NoRule, Rule};
 use std::fmt;
 
@@ -21,7 +22,7 @@ impl fmt::Display for OptionFault<'_> {
         match self {
             OptionFault::Unknown(word) => write!(
                 f,
-                "{word} is no option of work; allowed are --rule away, --rule even and --fill"
+                "{word} is no option of work or post; allowed are --rule away, --rule even and --fill"
             ),
             OptionFault::NoRule(word, fault) => write!(f, "{word} is {fault}"),
             OptionFault::RuleMissing => write!(
@@ -54,4 +55,42 @@ impl Options {
         }
         Ok(options)
     }
+}
+
+// What is wrong with DAY or an option.
+#[derive(Clone, Copy)]
+pub(crate) enum WordsFault<'a> {
+    Option(OptionFault<'a>),
+    NoNumber(NoNumber<'a>),
+}
+
+impl<'a> From<OptionFault<'a>> for WordsFault<'a> {
+    fn from(fault: OptionFault<'a>) -> WordsFault<'a> {
+        WordsFault::Option(fault)
+    }
+}
+
+impl<'a> From<NoNumber<'a>> for WordsFault<'a> {
+    fn from(fault: NoNumber<'a>) -> WordsFault<'a> {
+        WordsFault::NoNumber(fault)
+    }
+}
+
+impl fmt::Display for WordsFault<'_> {
+    fn fmt<W: fmt::Write>(&self, f: &mut fmt::Formatter<W>) -> fmt::Result {
+        match self {
+            WordsFault::Option(fault) => write!(f, "{fault}"),
+            WordsFault::NoNumber(fault) => write!(f, "{fault}"),
+        }
+    }
+}
+
+// The day that is asked for, and the options, which are looked at first.
+pub(crate) fn day_and_options<'a>(
+    day: &'a str,
+    words: &[&'a str],
+    example: &'static str,
+) -> Result<(u32, Options), WordsFault<'a>> {
+    let options = Options::read(words)?;
+    Ok((number_of("DAY", day, example)?, options))
 }

@@ -6,7 +6,7 @@ use std::path::Path;
 use std::rt::Files;
 use std::{fmt, fs, io};
 
-// What kept a file from being saved. In all cases but the last, what stood at its path is as it was.
+// What kept a file from being saved. In all cases but `Unsettled`, what stood at its path is as it was.
 #[derive(Drop)]
 pub(crate) enum SaveFault {
     // A new file was wanted, and there is something at its path.
@@ -17,6 +17,8 @@ pub(crate) enum SaveFault {
     Unwritten(io::Error),
     // It could not be given the name.
     Unplaced(io::Error),
+    // The file beside it could not be taken away.
+    Left(io::Error),
     // The file is saved, but its folder could not be tidied up or synced.
     Unsettled(io::Error),
 }
@@ -31,6 +33,7 @@ impl fmt::Display for SaveFault {
             ),
             SaveFault::Unwritten(e) => write!(f, "cannot be written: {e}"),
             SaveFault::Unplaced(e) => write!(f, "cannot be put in place: {e}"),
+            SaveFault::Left(e) => write!(f, "is as it was, but the file beside it is left: {e}"),
             SaveFault::Unsettled(e) => {
                 write!(
                     f,
@@ -51,7 +54,11 @@ pub(crate) fn save_new<R: Files + AllocGlobal>(
     if fs::symlink_metadata(rt, path).is_ok() {
         return Err(SaveFault::Taken);
     }
-    let beside = write_beside(rt, path, bytes, None)?;
+    let beside = guard(rt, path)?;
+    if let Err(fault) = prepare(rt, beside.as_str(), bytes, None) {
+        let _ = fs::remove_file(rt, beside.as_str());
+        return Err(fault);
+    }
     let placed = fs::hard_link(rt, beside.as_str(), path);
     let tidied = fs::remove_file(rt, beside.as_str());
     match placed {
@@ -63,39 +70,50 @@ pub(crate) fn save_new<R: Files + AllocGlobal>(
     sync_folder(rt, path)
 }
 
-// Saves a file in the place of what is there. Whoever reads meanwhile finds all of the old bytes or all of the new ones.
-pub(crate) fn save_over<R: Files + AllocGlobal>(
+// Makes the file beside a path that is to be written over, empty, and gives its name. As long as it is there no other call writes the path,
+// so what is read meanwhile is what will be replaced.
+pub(crate) fn guard<R: Files + AllocGlobal>(rt: &R, path: &str) -> Result<String, SaveFault> {
+    let beside = name_beside(rt, path).map_err(SaveFault::Unwritten)?;
+    match File::create_new(rt, beside.as_str()) {
+        Ok(_) => Ok(beside),
+        Err(e) if e.kind() == ErrorKind::AlreadyExists => Err(SaveFault::Busy(beside)),
+        Err(e) => Err(SaveFault::Unwritten(e)),
+    }
+}
+
+// Takes the file beside a path away again, where it is there; the path stays as it was.
+pub(crate) fn let_go<R: Files>(rt: &R, beside: &str) -> Result<(), SaveFault> {
+    match fs::remove_file(rt, beside) {
+        Err(e) if e.kind() != ErrorKind::NotFound => Err(SaveFault::Left(e)),
+        _ => Ok(()),
+    }
+}
+
+// Fills the file beside a path, and has its bytes stored.
+fn prepare<R: Files>(
+    rt: &R,
+    beside: &str,
+    bytes: &[u8],
+    permissions: Option<Permissions>,
+) -> Result<(), SaveFault> {
+    let file = File::create(rt, beside).map_err(SaveFault::Unwritten)?;
+    fill(file, bytes, permissions).map_err(SaveFault::Unwritten)
+}
+
+// The same where it is to replace the path, whose permissions it takes over.
+pub(crate) fn prepare_over<R: Files>(
     rt: &R,
     path: &str,
+    beside: &str,
     bytes: &[u8],
 ) -> Result<(), SaveFault> {
     let permissions = fs::metadata(rt, path).ok().map(|m| m.permissions());
-    let beside = write_beside(rt, path, bytes, permissions)?;
-    if let Err(e) = fs::rename(rt, beside.as_str(), path) {
-        let _ = fs::remove_file(rt, beside.as_str());
-        return Err(SaveFault::Unplaced(e));
-    }
-    sync_folder(rt, path)
+    prepare(rt, beside, bytes, permissions)
 }
 
-// Writes the file beside the path and gives its name; where that fails, there is none.
-fn write_beside<R: Files + AllocGlobal>(
-    rt: &R,
-    path: &str,
-    bytes: &[u8],
-    permissions: Option<Permissions>,
-) -> Result<String, SaveFault> {
-    let beside = name_beside(rt, path).map_err(SaveFault::Unwritten)?;
-    let file = match File::create_new(rt, beside.as_str()) {
-        Ok(file) => file,
-        Err(e) if e.kind() == ErrorKind::AlreadyExists => return Err(SaveFault::Busy(beside)),
-        Err(e) => return Err(SaveFault::Unwritten(e)),
-    };
-    if let Err(e) = fill(file, bytes, permissions) {
-        let _ = fs::remove_file(rt, beside.as_str());
-        return Err(SaveFault::Unwritten(e));
-    }
-    Ok(beside)
+// Gives the file beside a path the name. Whoever reads meanwhile finds all of the old bytes or all of the new ones.
+pub(crate) fn replace<R: Files>(rt: &R, path: &str, beside: &str) -> Result<(), SaveFault> {
+    fs::rename(rt, beside, path).map_err(SaveFault::Unplaced)
 }
 
 fn name_beside<R: AllocGlobal>(rt: &R, path: &str) -> io::Result<String> {
@@ -115,7 +133,7 @@ fn fill<F: Write + OpenFile + Drop>(
 }
 
 // Has the names in the folder of a path stored, so that they outlast a loss of power.
-fn sync_folder<R: Files>(rt: &R, path: &str) -> Result<(), SaveFault> {
+pub(crate) fn sync_folder<R: Files>(rt: &R, path: &str) -> Result<(), SaveFault> {
     let folder = File::open(rt, folder_of(path)).map_err(SaveFault::Unsettled)?;
     folder.sync_all().map_err(SaveFault::Unsettled)
 }

@@ -14,6 +14,9 @@ const USAGE: &str = "usage: settle COMMAND
   settle work FILE DAY [--rule away|even] [--fill]
       the amounts of a day worked from a file, as: settle work day.txt 7; --rule even rounds half a cent to the even
       neighbour and not away from zero; --fill takes zero where VSSVARIOL, URLLAG or URLLEAD is null
+  settle post BOOK DAY FILE [--rule away|even] [--fill]
+      a day worked from a file and posted to a book, as: settle post book.bin 7 day.txt; prints what was posted before and
+      what each QSE is billed now, and writes the book; where anything is refused, the book is as it was
   settle book new PATH PLACES
       a new book of 0 to 32 places, as: settle book new book.bin 32; what is at PATH already is never overwritten
   settle book show PATH [DAY]
@@ -41,6 +44,8 @@ impl<R: Files + Clock + Print + Eprint + AllocGlobal> Console<'_, R> {
             ["ask", ..] => self.wrong("ask wants FILE NAME UNIT DAY INT"),
             ["work", path, day, ref options @ ..] => self.work(path, day, options),
             ["work", ..] => self.wrong("work wants FILE DAY and then its options"),
+            ["post", book, day, path, ref options @ ..] => self.post(book, day, path, options),
+            ["post", ..] => self.wrong("post wants BOOK DAY FILE and then its options"),
             ["book", ref words @ ..] => self.book(words),
             ["help" | "--help" | "-h", ..] => {
                 self.rt.println(USAGE)?;

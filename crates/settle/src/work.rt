@@ -1,7 +1,6 @@
 // `settle work FILE DAY [--rule away|even] [--fill]`
 use crate::console::Console;
-use crate::options::{OptionFault, Options};
-use crate::words::{NoNumber, number_of};
+use crate::options::{Options, day_and_options};
 use filesource::source::FileSource;
 use intervals::warning::Warning;
 use messages::{stopped, warned};
@@ -12,9 +11,9 @@ use runs::run::Run;
 use runs::working::WARNING_ROWS;
 use sources::fill::ZeroFill;
 use std::fmt::Display;
+use std::io;
 use std::rt::{Clock, Files};
 use std::time::Instant;
-use std::{fmt, io};
 use terms::question::LAST_INTERVAL;
 use terms::source::Source;
 
@@ -24,44 +23,10 @@ const EXAMPLE: &str = "settle work day.txt 7 --rule even";
 const OUT_OF_TURN: &str =
     "the interval is not the one that is due, or the list of warnings is too short";
 
-// What is wrong with the words after FILE.
-#[derive(Clone, Copy)]
-enum WordsFault<'a> {
-    Option(OptionFault<'a>),
-    NoNumber(NoNumber<'a>),
-}
-
-impl<'a> From<OptionFault<'a>> for WordsFault<'a> {
-    fn from(fault: OptionFault<'a>) -> WordsFault<'a> {
-        WordsFault::Option(fault)
-    }
-}
-
-impl<'a> From<NoNumber<'a>> for WordsFault<'a> {
-    fn from(fault: NoNumber<'a>) -> WordsFault<'a> {
-        WordsFault::NoNumber(fault)
-    }
-}
-
-impl fmt::Display for WordsFault<'_> {
-    fn fmt<W: fmt::Write>(&self, f: &mut fmt::Formatter<W>) -> fmt::Result {
-        match self {
-            WordsFault::Option(fault) => write!(f, "{fault}"),
-            WordsFault::NoNumber(fault) => write!(f, "{fault}"),
-        }
-    }
-}
-
-// The day that is asked for, and the options, which are looked at first.
-fn read<'a>(day: &'a str, words: &[&'a str]) -> Result<(u32, Options), WordsFault<'a>> {
-    let options = Options::read(words)?;
-    Ok((number_of("DAY", day, EXAMPLE)?, options))
-}
-
 impl<R: Files + Clock + Print + Eprint + AllocGlobal> Console<'_, R> {
     // A day worked from a file; false where something is refused, the run stops or the command is wrong.
     pub(crate) fn work(&self, path: &str, day: &str, words: &[&str]) -> anyhow::Result<bool> {
-        let (number, options) = match read(day, words) {
+        let (number, options) = match day_and_options(day, words, EXAMPLE) {
             Ok(read) => read,
             Err(fault) => return self.refuse(fault),
         };
@@ -121,7 +86,7 @@ impl<R: Files + Clock + Print + Eprint + AllocGlobal> Console<'_, R> {
         Ok(true)
     }
 
-    fn say_stopped(
+    pub(crate) fn say_stopped(
         &self,
         interval: u32,
         refusal: IntervalRefusal,
@@ -132,7 +97,7 @@ impl<R: Files + Clock + Print + Eprint + AllocGlobal> Console<'_, R> {
     }
 
     // The first `count` rows.
-    fn say_warnings(&self, rows: &[Warning], count: usize) -> io::Result<()> {
+    pub(crate) fn say_warnings(&self, rows: &[Warning], count: usize) -> io::Result<()> {
         for row in rows.iter().take(count) {
             let text = warned::Sentence(row);
             println!(self.rt; "warning: {text}")?;
@@ -141,7 +106,7 @@ impl<R: Files + Clock + Print + Eprint + AllocGlobal> Console<'_, R> {
     }
 
     // After the last interval of an hour, where the work takes long.
-    fn tell_hour(&self, start: &Instant, interval: u32) -> io::Result<()> {
+    pub(crate) fn tell_hour(&self, start: &Instant, interval: u32) -> io::Result<()> {
         if interval % 4 == 0 && start.elapsed(self.rt)?.as_secs() >= 1 {
             let hour = interval / 4;
             self.hint(format_args!("settle: hour {hour} of 24 done"))?;
