@@ -1,4 +1,4 @@
-// The check asks here for the proof that the formulas give the amount of every row.
+// The check asks here for the proof that the formulas give what every row expects.
 ghost use Rattle.std.specs.List.{AllByRecursion};
 ghost use Rattle.worked.specs.Worked.{table, Works};
 

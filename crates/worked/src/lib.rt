@@ -1,4 +1,4 @@
-// Amounts worked by hand: a table of what each row is given and what it must give. The formulas give it, and so does the code.
+// Worked by hand: a table of what each row is given and what must come of it. The formulas give it, and so does the code.
 #![tactic(auto)]
 
 pub mod laws;

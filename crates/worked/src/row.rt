@@ -1,22 +1,67 @@
 // A row of the table.
+ghost use Rattle.std.specs.Prelude.{◌≡◌, ℕ, List};
+
 use amounts::readings::Readings;
 use rounding::rules::Rule;
+use std::marker::Model;
+use terms::determinant::Determinant;
 
-// What a row is given, as stored numbers.
+// A Resource's readings at a price of reactive energy.
 #[derive(Clone, Copy)]
+pub struct Priced {
+    pub price: i64,
+    pub readings: Readings,
+}
+
+// The bytes of a field. Contracts see them as a list.
+#[derive(Drop)]
+pub struct Text(pub(crate) &'static [u8]);
+
+impl Model for Text {
+    ghost Value = { List ℕ };
+
+    ghost view = { λ text. text.0.now };
+}
+
+impl Text {
+    pub fn bytes(&self) -> &'static [u8]
+        ensures { result.now ≡ self.now }
+    {
+        self.0
+    }
+}
+
+// What a row is given.
+#[derive(Drop)]
 pub enum Figures {
-    // For VSSVARAMT: the price and the readings.
-    Reactive(i64, Readings),
+    // For VSSVARAMT.
+    Reactive(Priced),
     // For VSSEAMT: the readings.
     Held(Readings),
     // For LAVSSAMT: all payments together and the share of the load.
     Load(i64, u32),
+    // For the VSSVARAMT of a bill to a QSE with one Resource: the Resource in the run, none where the QSE is absent from it, and in the
+    // run that was billed before.
+    Bill(Option<Priced>, Priced),
+    // For a stored number: the bytes of a determinant's field. The determinant says how many decimals a figure has at most.
+    Field(Determinant, Text),
 }
 
-// `amount` is what the figures must give, in cents.
-#[derive(Clone, Copy)]
+// What comes of figures.
+#[derive(Clone, Copy, PartialEq, Eq)]
+pub enum Outcome {
+    // An amount in cents.
+    Amount(i64),
+    // A stored number.
+    Stored(i64),
+    // The number of the answer that refuses a field.
+    Answer(u32),
+}
+
+// `expected` is what must come of the figures by the rule.
+#[derive(Drop)]
 pub struct Row {
     pub rule: Rule,
     pub figures: Figures,
-    pub amount: i64,
+    pub expected: Outcome,
 }
