@@ -1,20 +1,30 @@
 // What the trials share: records and questions in one line each.
 mod asks;
+mod calls;
 mod checks;
+mod clearing;
+mod damage;
 mod days;
+mod decoding;
 mod determinants;
 mod fields;
 mod fills;
+mod imaging;
 mod judging;
 mod keeping;
+mod layouts;
 mod lines;
 mod notations;
+mod openings;
+mod placebytes;
 mod questions;
 mod records;
 mod refusals;
+mod reopened;
 mod rounds;
 mod rows;
 mod smallday;
+mod stages;
 mod stops;
 mod warns;
 
