@@ -1,22 +1,29 @@
 // What the trials share: records and questions in one line each.
 mod asks;
+mod bills;
 mod checks;
 mod days;
 mod determinants;
 mod fields;
 mod fills;
+mod joblists;
 mod judging;
 mod keeping;
+mod ledgers;
 mod lines;
+mod meters;
 mod notations;
 mod questions;
 mod records;
 mod refusals;
 mod rounds;
 mod rows;
+mod slips;
 mod smallday;
 mod stops;
 mod warns;
+mod watches;
+mod wholejobs;
 
 use sources::records::Record;
 use std::process::Abort;
