@@ -1,5 +1,6 @@
 // What the trials share: records and questions in one line each.
 mod asks;
+mod bills;
 mod calls;
 mod checks;
 mod clearing;
@@ -10,10 +11,13 @@ mod determinants;
 mod fields;
 mod fills;
 mod imaging;
+mod joblists;
 mod judging;
 mod keeping;
 mod layouts;
+mod ledgers;
 mod lines;
+mod meters;
 mod notations;
 mod openings;
 mod placebytes;
@@ -23,10 +27,13 @@ mod refusals;
 mod reopened;
 mod rounds;
 mod rows;
+mod slips;
 mod smallday;
 mod stages;
 mod stops;
 mod warns;
+mod watches;
+mod wholejobs;
 
 use sources::records::Record;
 use std::process::Abort;
