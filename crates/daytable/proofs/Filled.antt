@@ -1,5 +1,5 @@
 -- The cuts that took in a file answer as the file does, about their day.
-use Rattle.std.proofs.Common.{◌≡◌, ℕ, ◌≤◌, Bool, true, false, cond, ◌&&◌, eqb, leb, List, ℤ, Ok, unsigned_abs, refl, sym, ap, ◌∙◌, subst, arith}
+use Rattle.std.proofs.Common.{◌≡◌, ℕ, ◌≤◌, Bool, true, false, cond, ◌&&◌, eqb, leb, List, ℤ, Ok, unsigned_abs, refl, sym, ap, ◌∙◌, subst}
 use Rattle.std.proofs.lemmas.Bool.{and_parts, leb-true, eqb-true}
 use Rattle.terms.specs.Answers.{Sized}
 use Rattle.terms.specs.Decisions.{decide}
@@ -9,7 +9,6 @@ use Rattle.terms.specs.declared.answer.Answer.TheVariants.{NoCut, Figure}
 use Rattle.terms.specs.declared.determinant.Determinant.{Determinant}
 use Rattle.detfile.specs.Files.{names_cut, judged}
 use Rattle.detfile.specs.Lines.{lines}
-use Rattle.filesource.specs.Parts.{columns, values}
 use Rattle.filesource.specs.Asks.{line_says, asked}
 use Rattle.filesource.specs.AsksKept.{asked_laws}
 use Rattle.filesource.proofs.AskSteps.{asked_open}
@@ -24,7 +23,7 @@ roomy d u y i e =
     let c = and_parts (leb u last_unit) _ b.1 in
     let f = and_parts (leb y last_day) _ c.1 in
     let g = and_parts (leb 1 i) _ f.1 in
-    record { first_determinant = leb-true 1 d a.0; last_determinant = leb-true d last_determinant b.0; last_unit = leb-true u last_unit c.0; first_interval = leb-true 1 i g.0; last_interval = leb-true i last_interval g.1 }
+    record { from_determinant = leb-true 1 d a.0; to_determinant = leb-true d last_determinant b.0; to_unit = leb-true u last_unit c.0; from_interval = leb-true 1 i g.0; to_interval = leb-true i last_interval g.1 }
 
 by_day : (s t : Bool) (a b : Answer) → (s ≡ true → t ≡ true → a ≡ b) → (s ≡ false → b ≡ NoCut) → cond (s && t) a NoCut ≡ cond t b NoCut
 by_day true true a b e n = e refl refl
@@ -41,9 +40,9 @@ module _ (bs : List ℕ) (day : ℕ) where
   filled ks vs n before cs j c blank says d u y i =
       by_day (inside d u y i) (eqb y day) (cuts_say cs d u i) (asked bs d u y i)
       (λ e t.
-        let room = roomy d u y i e in
-        let answered : cuts_say cs d u i ≡ decide (line_says ks d u day i) NoCut (lines vs) = says d u i room ∙ ap (λ a. decide (line_says ks d u day i) a (lines vs)) (blank d u i room) in
-        asked_open bs d u y i (cuts_say cs d u i) ks vs e (rw (j, c) refl) (rw (j, c) refl) (rw (eqb-true y day t) answered))
+      let room = roomy d u y i e in
+      let answered : cuts_say cs d u i ≡ decide (line_says ks d u day i) NoCut (lines vs) = says d u i room ∙ ap (λ a. decide (line_says ks d u day i) a (lines vs)) (blank d u i room) in
+      asked_open bs d u y i (cuts_say cs d u i) ks vs e (rw (j, c) refl) (rw (j, c) refl) (rw (eqb-true y day t) answered))
       (λ f. rw f refl)
 
   -- so its figures lie within the stored range

@@ -1,5 +1,5 @@
 -- No column of a file stands twice.
-use Rattle.std.proofs.Common.{◌≡◌, ℕ, zero, suc, ◌-◌, Bool, true, false, cond, ◌&&◌, ◌||◌, eqb, leb, List, [], ◌∷◌, ◌++◌, length, Some, None, Ok, Err, Option, Result, ok_or, refl, sym, ap, ◌∙◌, subst, arith}
+use Rattle.std.proofs.Common.{◌≡◌, ℕ, zero, suc, ◌-◌, Bool, true, false, cond, ◌&&◌, ◌||◌, eqb, leb, List, [], ◌∷◌, ◌++◌, length, Some, None, Ok, Err, Option, Result, ok_or, refl, sym, ap, subst}
 use Rattle.std.proofs.lemmas.Bool.{ne_eqb, eqb-false}
 use Rattle.terms.specs.Determinants.{number_of, named}
 use Rattle.terms.specs.declared.determinant.Determinant.{Determinant}
@@ -64,6 +64,7 @@ columns_apart bs = first (cut 10 bs)
     second : (values : List ℕ) (o : Option (List Determinant)) → SomeApart o → OkApart (then (ok_or o Names) (λ ks. Ok (ks, values)))
     second values None h = tt
     second values (Some ks) h = h
+
     first : (o : Option (List ℕ × List ℕ)) → OkApart (then (ok_or o Names) (λ p. then (ok_or (names_of p.0) Names) (λ ks. Ok (ks, p.1))))
     first None = tt
     first (Some p) = second p.1 (names_of p.0) (line_apart p.0)

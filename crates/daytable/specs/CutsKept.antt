@@ -1,13 +1,13 @@
 -- The table of a day keeps the laws of a source. Assumes nothing.
 use Rattle.std.specs.Prelude.{◌≡◌, ℕ, ◌-◌, ◌≤◌, Bool, true, false, cond, ◌&&◌, List, ℤ, Some, None, Option, ◌==◌, slice_index_or, unsigned_abs, refl}
 use Rattle.terms.specs.Answers.{Sized}
-use Rattle.terms.specs.Limits.{most_stored, inside}
+use Rattle.terms.specs.Limits.{most_stored}
 use Rattle.terms.specs.Sources.{SourceLaws}
 use Rattle.terms.specs.declared.answer.Answer.{Answer}
 use Rattle.terms.specs.declared.answer.Answer.TheVariants.{NoCut, Null, Figure}
 use Rattle.daytable.specs.declared.cut.Cut.{Cut}
 use Rattle.daytable.specs.declared.cut.Cut.TheVariants.{Nothing, Given}
-use Rattle.daytable.specs.Cuts.{figure_says, cut_says, cuts_say, place, tabled}
+use Rattle.daytable.specs.Cuts.{figure_says, cut_says, place, tabled}
 
 figure_none : (o : Option ℤ) → figure_says o ≡ NoCut → (X : Type 0) → X
 figure_none None e X = cc

@@ -1,5 +1,6 @@
 // The cut of one determinant and unit.
 ghost use Rattle.std.specs.Prelude.{◌≡◌, ℕ, ◌-◌, ◌≤◌, cond, Some, None, length, slice_index_or};
+ghost use Rattle.terms.specs.Limits.{last_interval};
 ghost use Rattle.terms.specs.Answers.{later};
 ghost use Rattle.terms.specs.declared.answer.Answer.TheVariants.{Null, Figure};
 ghost use Rattle.detfile.specs.Keys.{covers_of};
@@ -19,7 +20,7 @@ pub(crate) enum Cut {
 // Writes a number at each interval that is covered.
 fn write(figures: &mut [Option<i32>; INTERVALS], interval: Interval, number: i32)
     requires { InDay interval }
-    ensures { (i : ℕ) → 1 ≤ i → i ≤ 96 → slice_index_or figures.new (i - 1) None ≡ cond (covers_of interval i) (Some number) (slice_index_or figures.old (i - 1) None) }
+    ensures { (i : ℕ) → 1 ≤ i → i ≤ last_interval → slice_index_or figures.new (i - 1) None ≡ cond (covers_of interval i) (Some number) (slice_index_or figures.old (i - 1) None) }
 {
     match interval {
         Interval::Every => figures.fill(Some(number)),
@@ -31,7 +32,7 @@ impl Cut {
     // Takes in a number that a line gives.
     pub(crate) fn put(&mut self, interval: Interval, number: i32)
         requires { InDay interval }
-        ensures { (i : ℕ) → 1 ≤ i → i ≤ 96 → cut_says self.new i ≡ later (cut_says self.old i) (cond (covers_of interval i) (Figure number) Null) }
+        ensures { (i : ℕ) → 1 ≤ i → i ≤ last_interval → cut_says self.new i ≡ later (cut_says self.old i) (cond (covers_of interval i) (Figure number) Null) }
     {
         match self {
             Cut::Given(figures) => write(figures, interval, number),
@@ -46,7 +47,7 @@ impl Cut {
     // The answer at an interval.
     pub(crate) fn at(&self, interval: u32) -> Answer
         requires first { 1 ≤ interval }
-        requires last { interval ≤ 96 }
+        requires last { interval ≤ last_interval }
         ensures { result ≡ cut_says self.now interval }
     {
         match self {

@@ -1,5 +1,6 @@
 // What the lines of a file give a day.
 ghost use Rattle.std.specs.Prelude.{◌≡◌, ℕ, ◌≤◌, cond, ◌&&◌, ◌==◌, length, unsigned_abs};
+ghost use Rattle.terms.specs.Limits.{last_unit, most_stored};
 ghost use Rattle.terms.specs.Answers.{later};
 ghost use Rattle.terms.specs.Decisions.{decide};
 ghost use Rattle.terms.specs.Determinants.{number_of};
@@ -12,7 +13,7 @@ ghost use Rattle.detfile.specs.Names.{columns_in};
 ghost use Rattle.detfile.specs.Values.{given_by};
 ghost use Rattle.detfile.specs.Walks.{file_line};
 ghost use Rattle.filesource.specs.Asks.{value_says, column_says, line_says, asked};
-ghost use Rattle.daytable.specs.Cuts.{InDay, Roomy, cuts_say, tabled};
+ghost use Rattle.daytable.specs.Cuts.{cut_count, InDay, Roomy, cuts_say, tabled};
 ghost use Rattle.daytable.specs.Columns.{Apart};
 
 use crate::cut::Cut;
@@ -20,7 +21,7 @@ use crate::place::place_of;
 use detfile::check::check_file;
 use detfile::columns::Columns;
 use detfile::fields::Fields;
-use detfile::key::{Interval, Key};
+use detfile::key::Key;
 use detfile::lines::{Line, Lines};
 use detfile::names::cut_names;
 use detfile::refusal::FileRefusal;
@@ -30,7 +31,7 @@ use terms::determinant::Determinant;
 
 // A stored number in half its room.
 fn narrowed(number: i64) -> i32
-    requires { unsigned_abs number ≤ 1000000000 }
+    requires { unsigned_abs number ≤ most_stored }
     ensures { result ≡ number }
 {
     number as i32
@@ -38,10 +39,10 @@ fn narrowed(number: i64) -> i32
 
 // Takes in what a determinant's field gives.
 fn put_field(cuts: &mut [Cut], key: Key, determinant: Determinant, token: Token<'_>)
-    requires long { length cuts.old ≡ 1664 }
-    requires unit { key.unit ≤ 127 }
+    requires long { length cuts.old ≡ cut_count }
+    requires unit { key.unit ≤ last_unit }
     requires interval { InDay key.interval }
-    ensures long { length cuts.new ≡ 1664 }
+    ensures long { length cuts.new ≡ cut_count }
     ensures says { (d u i : ℕ) → Roomy d u i → cuts_say cuts.new d u i ≡ later (cuts_say cuts.old d u i) (cond (key.unit == u && number_of determinant == d) (value_says (covers_of key.interval i) (given_by determinant (seen token.entry))) NoCut) }
 {
     if let Ok(Some(number)) = given_value(token, determinant) {
@@ -52,11 +53,11 @@ fn put_field(cuts: &mut [Cut], key: Key, determinant: Determinant, token: Token<
 
 // Takes in what the fields of the determinants give.
 fn put_fields(cuts: &mut [Cut], key: Key, columns: &[Determinant], fields: &[u8])
-    requires long { length cuts.old ≡ 1664 }
-    requires unit { key.unit ≤ 127 }
+    requires long { length cuts.old ≡ cut_count }
+    requires unit { key.unit ≤ last_unit }
     requires interval { InDay key.interval }
     requires apart { Apart columns.now }
-    ensures long { length cuts.new ≡ 1664 }
+    ensures long { length cuts.new ≡ cut_count }
     ensures says { (d u i : ℕ) → Roomy d u i → cuts_say cuts.new d u i ≡ later (cuts_say cuts.old d u i) (cond (key.unit == u) (column_says columns.now d (covers_of key.interval i) fields.now) NoCut) }
 {
     let mut rest = fields;
@@ -69,9 +70,9 @@ fn put_fields(cuts: &mut [Cut], key: Key, columns: &[Determinant], fields: &[u8]
 
 // Takes in what a line gives the day.
 fn put_line(cuts: &mut [Cut], columns: &Columns, day: u32, line: Line<'_>)
-    requires long { length cuts.old ≡ 1664 }
+    requires long { length cuts.old ≡ cut_count }
     requires apart { Apart (columns_in columns.now) }
-    ensures long { length cuts.new ≡ 1664 }
+    ensures long { length cuts.new ≡ cut_count }
     ensures says { (d u i : ℕ) → Roomy d u i → cuts_say cuts.new d u i ≡ later (cuts_say cuts.old d u i) (line_says (columns_in columns.now) d u day i (file_line line.entry)) }
 {
     let Line::Ended(line) = line else {
@@ -87,9 +88,9 @@ fn put_line(cuts: &mut [Cut], columns: &Columns, day: u32, line: Line<'_>)
 
 // Takes in what all lines give the day, each line once.
 fn put_lines(cuts: &mut [Cut], columns: &Columns, day: u32, values: &[u8])
-    requires long { length cuts.old ≡ 1664 }
+    requires long { length cuts.old ≡ cut_count }
     requires apart { Apart (columns_in columns.now) }
-    ensures long { length cuts.new ≡ 1664 }
+    ensures long { length cuts.new ≡ cut_count }
     ensures says { (d u i : ℕ) → Roomy d u i → cuts_say cuts.new d u i ≡ decide (line_says (columns_in columns.now) d u day i) (cuts_say cuts.old d u i) (lines values.now) }
 {
     for line in Lines::new(values) {
@@ -99,9 +100,9 @@ fn put_lines(cuts: &mut [Cut], columns: &Columns, day: u32, values: &[u8])
 
 // Checks a file, and takes in what it says of the day.
 pub(crate) fn fill(cuts: &mut [Cut], day: u32, bytes: &[u8]) -> Result<u32, FileRefusal>
-    requires long { length cuts.old ≡ 1664 }
+    requires long { length cuts.old ≡ cut_count }
     requires blank { (d u i : ℕ) → Roomy d u i → cuts_say cuts.old d u i ≡ NoCut }
-    ensures long { length cuts.new ≡ 1664 }
+    ensures long { length cuts.new ≡ cut_count }
     ensures verdict { result ≡ judged bytes.now }
     ensures says { (d u y i : ℕ) → tabled day cuts.new d u y i ≡ cond (y == day) (asked bytes.now d u y i) NoCut }
 {

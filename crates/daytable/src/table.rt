@@ -1,7 +1,8 @@
 // The table of a day: a source that read a determinant file once.
 ghost use Rattle.std.specs.Prelude.{◌≡◌, ℕ, ◌≤◌, ℤ, length, unsigned_abs};
+ghost use Rattle.terms.specs.Limits.{most_stored};
 ghost use Rattle.terms.specs.declared.answer.Answer.TheVariants.{Figure};
-ghost use Rattle.daytable.specs.Cuts.{tabled};
+ghost use Rattle.daytable.specs.Cuts.{cut_count, tabled};
 
 use crate::cut::Cut;
 use crate::filling::fill;
@@ -13,14 +14,19 @@ use terms::answer::Answer;
 use terms::question::Question;
 use terms::source::Source;
 
+// The most bytes that the cuts may take.
+const MOST_MEMORY: usize = 2 << 20;
+
+const _: () = prove!(size_of::<Cut>() * CUTS <= MOST_MEMORY);
+
 // What a file says of one day, a cut for each determinant and unit, and the verdict on the file. It owns its memory, which is taken once.
 #[derive(Drop)]
 pub struct DayTable {
     verdict: Result<u32, FileRefusal>,
     day: u32,
     cuts: Vec<Cut>,
-    ghost long: { length cuts.items ≡ 1664 },
-    ghost sized: { (d u y i : ℕ) (z : ℤ) → tabled day cuts.items d u y i ≡ Figure z → unsigned_abs z ≤ 1000000000 },
+    ghost long: { length cuts.items ≡ cut_count },
+    ghost sized: { (d u y i : ℕ) (z : ℤ) → tabled day cuts.items d u y i ≡ Figure z → unsigned_abs z ≤ most_stored },
 }
 
 impl DayTable {

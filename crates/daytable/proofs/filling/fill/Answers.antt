@@ -1,6 +1,5 @@
-use Rattle.std.proofs.Common.{◌≡◌, ℕ, ◌+◌, ◌∷◌, cond, sym, ap, ◌∙◌, Ok}
+use Rattle.std.proofs.Common.{sym, ap, ◌∙◌}
 use Rattle.detfile.specs.Files.{parts_in}
-use Rattle.detfile.specs.Names.{columns_in}
 use Rattle.daytable.proofs.Filled.{filled}
 use Rattle.daytable.proofs.Headed.{cut_apart}
 use Rattle.daytable.proofs.filling.fill.Goals as goal

@@ -1,8 +1,7 @@
-use Rattle.std.proofs.Common.{◌≡◌, ℕ, ◌≤◌, cond, Some, Ok, sym, ap, ◌∙◌, subst, w32, w64, FitsSigned, rules}
-use Rattle.std.specs.Prelude.{unsigned_abs}
+use Rattle.std.proofs.Common.{◌≡◌, cond, Some, Ok, sym, ap, ◌∙◌, w32, w64, FitsSigned, rules}
 use Rattle.std.proofs.lemmas.Int.{to_z-of_z}
 use Rattle.terms.specs.declared.answer.Answer.{Answer}
-use Rattle.terms.specs.declared.answer.Answer.TheVariants.{NoCut, Null, Figure}
+use Rattle.terms.specs.declared.answer.Answer.TheVariants.{Null, Figure}
 use Rattle.terms.specs.Determinants.{number_of}
 use Rattle.terms.specs.Answers.{later}
 use Rattle.terms.proofs.Tabling.{tabled}

@@ -1,4 +1,4 @@
-use Rattle.std.proofs.Common.{◌≡◌, length, sym, ap, subst, ◌∙◌, rules}
+use Rattle.std.proofs.Common.{◌≡◌, length, ap, ◌∙◌, rules}
 use Rattle.std.proofs.lemmas.List.{with_items_is}
 use Rattle.std.specs.Vec.{with_items}
 use Rattle.daytable.specs.Cuts.{tabled}
@@ -11,6 +11,7 @@ invariant_of-result c =
     let cs = c.fill-verdict.new.cuts in
     let long : length cs ≡ v.len = search rules in
     let held = with_items_is v cs long in
-    record { long = ap length held ∙ c.fill-verdict.ensures.long; 
+    record {
+      long = ap length held ∙ c.fill-verdict.ensures.long;
       sized = figures_within c.args.bytes.now c.args.day (with_items v cs).items (λ d u y i. ap (λ l. tabled c.args.day l d u y i) held ∙ c.fill-verdict.ensures.says d u y i);
     }
