@@ -3,7 +3,7 @@ use Rattle.std.proofs.Common.{◌≡◌, ℕ, ◌≤◌, Bool, true, false, cond
 use Rattle.std.proofs.lemmas.Bool.{and_parts, leb-true, eqb-true}
 use Rattle.terms.specs.Answers.{Sized}
 use Rattle.terms.specs.Decisions.{decide}
-use Rattle.terms.specs.Limits.{last_determinant, last_unit, last_day, last_interval, inside}
+use Rattle.terms.specs.Limits.{last_determinant, last_unit, last_day, last_interval, most_stored, inside}
 use Rattle.terms.specs.declared.answer.Answer.{Answer}
 use Rattle.terms.specs.declared.answer.Answer.TheVariants.{NoCut, Figure}
 use Rattle.terms.specs.declared.determinant.Determinant.{Determinant}
@@ -46,9 +46,9 @@ module _ (bs : List ℕ) (day : ℕ) where
       (λ f. rw f refl)
 
   -- so its figures lie within the stored range
-  pub figures_within : (cs : List Cut) → ((d u y i : ℕ) → tabled day cs d u y i ≡ cond (eqb y day) (asked bs d u y i) NoCut) → (d u y i : ℕ) (z : ℤ) → tabled day cs d u y i ≡ Figure z → unsigned_abs z ≤ 1000000000
+  pub figures_within : (cs : List Cut) → ((d u y i : ℕ) → tabled day cs d u y i ≡ cond (eqb y day) (asked bs d u y i) NoCut) → (d u y i : ℕ) (z : ℤ) → tabled day cs d u y i ≡ Figure z → unsigned_abs z ≤ most_stored
   figures_within cs says d u y i z e = by (eqb y day) (asked bs d u y i) ((asked_laws (λ (b : List ℕ). b)).sized bs d u y i) (sym (says d u y i) ∙ e)
     where
-      by : (t : Bool) (a : Answer) → Sized a → cond t a NoCut ≡ Figure z → unsigned_abs z ≤ 1000000000
+      by : (t : Bool) (a : Answer) → Sized a → cond t a NoCut ≡ Figure z → unsigned_abs z ≤ most_stored
       by true a h f = subst Sized f h
       by false a h f = cc

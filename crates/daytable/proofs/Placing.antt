@@ -4,24 +4,25 @@ use Rattle.std.proofs.Math.ListN.{set}
 use Rattle.std.proofs.lemmas.List.{get_or-set_same, get_or-set_other}
 use Rattle.std.proofs.lemmas.Bool.{eqb-true, eqb-false}
 use Rattle.terms.specs.Answers.{later}
+use Rattle.terms.specs.Limits.{last_determinant, last_unit, last_interval}
 use Rattle.terms.specs.declared.answer.Answer.{Answer}
 use Rattle.terms.specs.declared.answer.Answer.TheVariants.{NoCut}
 use Rattle.daytable.specs.declared.cut.Cut.{Cut}
 use Rattle.daytable.specs.declared.cut.Cut.TheVariants.{Nothing}
 use Rattle.daytable.specs.Cuts.{cut_count, Roomy, cut_says, place, cuts_say}
 
-place_room : (e v : ℕ) → 1 ≤ e → e ≤ 13 → v ≤ 127 → place e v < cut_count
+place_room : (e v : ℕ) → 1 ≤ e → e ≤ last_determinant → v ≤ last_unit → place e v < cut_count
 place_room e v p q r = omega arith
 
-same_determinant : (d u e v : ℕ) → 1 ≤ d → 1 ≤ e → u ≤ 127 → v ≤ 127 → place d u ≡ place e v → e ≡ d
+same_determinant : (d u e v : ℕ) → 1 ≤ d → 1 ≤ e → u ≤ last_unit → v ≤ last_unit → place d u ≡ place e v → e ≡ d
 same_determinant d u e v p q r s h = omega arith
 
-same_unit : (d u e v : ℕ) → 1 ≤ d → 1 ≤ e → u ≤ 127 → v ≤ 127 → place d u ≡ place e v → v ≡ u
+same_unit : (d u e v : ℕ) → 1 ≤ d → 1 ≤ e → u ≤ last_unit → v ≤ last_unit → place d u ≡ place e v → v ≡ u
 same_unit d u e v p q r s h = omega arith
 
 -- the cuts after that of a determinant e and a unit v took in what a line gives
-pub put_says : (cs : List Cut) (e v n : ℕ) (c : Cut) (given : ℕ → Answer) → length cs ≡ cut_count → 1 ≤ e → e ≤ 13 → v ≤ 127 → n ≡ place e v
-    → ((i : ℕ) → 1 ≤ i → i ≤ 96 → cut_says c i ≡ later (cut_says (get_or cs n Nothing) i) (given i))
+pub put_says : (cs : List Cut) (e v n : ℕ) (c : Cut) (given : ℕ → Answer) → length cs ≡ cut_count → 1 ≤ e → e ≤ last_determinant → v ≤ last_unit → n ≡ place e v
+    → ((i : ℕ) → 1 ≤ i → i ≤ last_interval → cut_says c i ≡ later (cut_says (get_or cs n Nothing) i) (given i))
     → (d u i : ℕ) → Roomy d u i → cuts_say (set cs n c) d u i ≡ later (cuts_say cs d u i) (cond (eqb v u && eqb e d) (given i) NoCut)
 put_says cs e v n c given long first last unit at took d u i room = by (eqb v u) (eqb e d) refl refl
   where

@@ -9,14 +9,14 @@ use Rattle.daytable.specs.declared.cut.Cut.{Cut}
 use Rattle.daytable.specs.declared.cut.Cut.TheVariants.{Nothing, Given}
 use Rattle.daytable.specs.Cuts.{figure_says, cut_says, place, tabled}
 
-figure_none : (o : Option ℤ) → figure_says o ≡ NoCut → (X : Type 0) → X
-figure_none None e X = cc
-figure_none (Some z) e X = cc
+figure_none : {X : Type 0} (o : Option ℤ) → figure_says o ≡ NoCut → X
+figure_none None e = cc
+figure_none (Some z) e = cc
 
 -- a cut is whole: it answers no cut at every interval or at none
 cut_none : (c : Cut) (i j : ℕ) → cut_says c i ≡ NoCut → cut_says c j ≡ NoCut
 cut_none Nothing i j e = refl
-cut_none (Given zs) i j e = figure_none (slice_index_or zs (i - 1) None) e (figure_says (slice_index_or zs (j - 1) None) ≡ NoCut)
+cut_none (Given zs) i j e = figure_none (slice_index_or zs (i - 1) None) e
 
 figures_sized : (a : Answer) → ((z : ℤ) → a ≡ Figure z → unsigned_abs z ≤ most_stored) → Sized a
 figures_sized NoCut h = tt
