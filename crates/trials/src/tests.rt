@@ -2,6 +2,7 @@
 mod asks;
 mod checks;
 mod days;
+mod daytables;
 mod determinants;
 mod fields;
 mod fills;
