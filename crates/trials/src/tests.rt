@@ -6,6 +6,7 @@ mod checks;
 mod clearing;
 mod damage;
 mod days;
+mod daytables;
 mod decoding;
 mod determinants;
 mod fields;

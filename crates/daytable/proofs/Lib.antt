@@ -1,0 +1,4 @@
+pub mod Placing
+pub mod Spread
+pub mod Headed
+pub mod Filled

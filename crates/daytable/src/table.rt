@@ -1,0 +1,71 @@
+// The table of a day: a source that read a determinant file once.
+ghost use Rattle.std.specs.Prelude.{◌≡◌, ℕ, ◌≤◌, ℤ, length, unsigned_abs};
+ghost use Rattle.terms.specs.Limits.{most_stored};
+ghost use Rattle.terms.specs.declared.answer.Answer.TheVariants.{Figure};
+ghost use Rattle.daytable.specs.Cuts.{cut_count, tabled};
+
+use crate::cut::Cut;
+use crate::filling::fill;
+use crate::place::{CUTS, place_of};
+use crate::unbuilt::Unbuilt;
+use detfile::refusal::FileRefusal;
+use std::alloc::Global;
+use terms::answer::Answer;
+use terms::question::Question;
+use terms::source::Source;
+
+// The most bytes that the cuts may take.
+const MOST_MEMORY: usize = 2 << 20;
+
+const _: () = prove!(size_of::<Cut>() * CUTS <= MOST_MEMORY);
+
+// What a file says of one day, a cut for each determinant and unit, and the verdict on the file. It owns its memory, which is taken once.
+#[derive(Drop)]
+pub struct DayTable {
+    verdict: Result<u32, FileRefusal>,
+    day: u32,
+    cuts: Vec<Cut>,
+    ghost long: { length cuts.items ≡ cut_count },
+    ghost sized: { (d u y i : ℕ) (z : ℤ) → tabled day cuts.items d u y i ≡ Figure z → unsigned_abs z ≤ most_stored },
+}
+
+impl DayTable {
+    ghost use Rattle.std.specs.Prelude.{cond, ◌==◌, IfOk};
+    ghost use Rattle.terms.specs.declared.answer.Answer.TheVariants.{NoCut};
+    ghost use Rattle.detfile.specs.Files.{judged};
+    ghost use Rattle.filesource.specs.Asks.{asked};
+
+    // Checks a file and takes in what it says of the day: each byte is looked at for the check and once more for the table, and each number
+    // of the day is written once, or 96 times where the line is for every interval. The bytes may be let go afterwards.
+    pub fn build(alloc: Global, bytes: &[u8], day: u32) -> Result<DayTable, Unbuilt>
+        ensures verdict { IfOk result (λ t. t.verdict ≡ judged bytes.now) }
+        ensures table { IfOk result (λ t. (d u y i : ℕ) → tabled t.day t.cuts.items d u y i ≡ cond (y == day) (asked bytes.now d u y i) NoCut) }
+    {
+        let mut cuts = vec![in alloc; Cut::Nothing; CUTS]?;
+        let verdict = fill(&mut cuts, day, bytes);
+        Ok(DayTable { verdict, day, cuts })
+    }
+
+    // How many value lines the file has, or why it is refused.
+    pub fn verdict(&self) -> Result<u32, FileRefusal>
+        ensures { result ≡ self.now.verdict }
+    {
+        self.verdict
+    }
+}
+
+impl Source for DayTable {
+    ghost use Rattle.daytable.specs.CutsKept.{tabled_laws};
+
+    ghost table = { λ s d u y i. tabled s.day s.cuts.items d u y i };
+
+    ghost laws = { tabled_laws (λ s. s.day) (λ s. s.cuts.items) (λ s. s.sized) };
+
+    // Looks at one place, whatever the size of the file.
+    fn ask(&self, question: Question) -> Answer {
+        if !question.is_inside() || question.day != self.day {
+            return Answer::NoCut;
+        }
+        self.cuts[place_of(question.determinant, question.unit)].at(question.interval)
+    }
+}
