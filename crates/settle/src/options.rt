@@ -7,6 +7,8 @@ use std::fmt;
 pub(crate) struct Options {
     pub(crate) rule: Rule,
     pub(crate) fill: bool,
+    // Each question goes to the file, not to a table that was made of it.
+    pub(crate) direct: bool,
 }
 
 // What is wrong with an option, and the word at which it is seen.
@@ -22,7 +24,7 @@ impl fmt::Display for OptionFault<'_> {
         match self {
             OptionFault::Unknown(word) => write!(
                 f,
-                "{word} is no option of work or post; allowed are --rule away, --rule even and --fill"
+                "{word} is no option of work or post; allowed are --rule away, --rule even, --fill and --direct"
             ),
             OptionFault::NoRule(word, fault) => write!(f, "{word} is {fault}"),
             OptionFault::RuleMissing => write!(
@@ -39,6 +41,7 @@ impl Options {
         let mut options = Options {
             rule: Rule::Away,
             fill: false,
+            direct: false,
         };
         let mut words = words.iter().copied();
         while let Some(word) = words.next() {
@@ -50,6 +53,7 @@ impl Options {
                         .map_err(|fault| OptionFault::NoRule(name, fault))?;
                 }
                 "--fill" => options.fill = true,
+                "--direct" => options.direct = true,
                 _ => return Err(OptionFault::Unknown(word)),
             }
         }

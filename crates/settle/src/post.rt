@@ -1,4 +1,4 @@
-// `settle post BOOK DAY FILE [--rule away|even] [--fill]`
+// `settle post BOOK DAY FILE [--rule away|even] [--fill] [--direct]`
 use crate::console::Console;
 use crate::options::{Options, day_and_options};
 use crate::save::{guard, let_go, prepare_over, replace, sync_folder};
@@ -7,6 +7,7 @@ use amounts::row::Amounts;
 use books::place::Place;
 use books::refusal::BookRefusal;
 use books::shelf::Shelf;
+use daytable::table::DayTable;
 use filesource::source::FileSource;
 use imagebook::bytes::Image;
 use imagebook::fault::ImageFault;
@@ -92,10 +93,25 @@ impl<R: Files + Clock + Print + Eprint + AllocGlobal> Console<'_, R> {
         let Some(bytes) = self.load(path)? else {
             return Ok(false);
         };
-        let source = FileSource::new(&bytes);
-        let verdict = source.verdict();
-        self.say_verdict(path, &bytes, verdict)?;
-        if verdict.is_err() {
+        if posting.options.direct {
+            let source = FileSource::new(&bytes);
+            self.say_verdict(path, &bytes, source.verdict())?;
+            self.post_checked(source.verdict().is_ok(), posting, source)
+        } else {
+            let source = DayTable::build(self.rt.alloc(), &bytes, u32::from(posting.day))?;
+            self.say_verdict(path, &bytes, source.verdict())?;
+            self.post_checked(source.verdict().is_ok(), posting, source)
+        }
+    }
+
+    // False where the file of the source is refused, and then nothing is posted.
+    fn post_checked<S: Source + Drop>(
+        &self,
+        sound: bool,
+        posting: Posting<'_>,
+        source: S,
+    ) -> anyhow::Result<bool> {
+        if !sound {
             return Ok(false);
         }
         if posting.options.fill {

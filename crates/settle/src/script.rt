@@ -11,10 +11,11 @@ const USAGE: &str = "usage: settle COMMAND
       whether each determinant file can be read, and if not, why and at which line
   settle ask FILE NAME UNIT DAY INT
       what a file says of a determinant, as: settle ask day.txt RTSPP 3 7 12
-  settle work FILE DAY [--rule away|even] [--fill]
+  settle work FILE DAY [--rule away|even] [--fill] [--direct]
       the amounts of a day worked from a file, as: settle work day.txt 7; --rule even rounds half a cent to the even
-      neighbour and not away from zero; --fill takes zero where VSSVARIOL, URLLAG or URLLEAD is null
-  settle post BOOK DAY FILE [--rule away|even] [--fill]
+      neighbour and not away from zero; --fill takes zero where VSSVARIOL, URLLAG or URLLEAD is null; --direct puts each
+      question to the file, which is slow and comes to the same
+  settle post BOOK DAY FILE [--rule away|even] [--fill] [--direct]
       a day worked from a file and posted to a book, as: settle post book.bin 7 day.txt; prints what was posted before and
       what each QSE is billed now, and writes the book; where anything is refused, the book is as it was
   settle book new PATH PLACES

@@ -1,6 +1,7 @@
-// `settle work FILE DAY [--rule away|even] [--fill]`
+// `settle work FILE DAY [--rule away|even] [--fill] [--direct]`
 use crate::console::Console;
 use crate::options::{Options, day_and_options};
+use daytable::table::DayTable;
 use filesource::source::FileSource;
 use intervals::warning::Warning;
 use messages::{stopped, warned};
@@ -31,19 +32,41 @@ impl<R: Files + Clock + Print + Eprint + AllocGlobal> Console<'_, R> {
             Err(fault) => return self.refuse(fault),
         };
         match RunDay::try_from(number) {
-            Ok(checked) => self.work_file(path, checked, options),
+            Ok(checked) => self.work_file(path, number, checked, options),
             Err(refusal) => self.say_day_refused(day, refusal.number()),
         }
     }
 
-    fn work_file(&self, path: &str, day: RunDay, options: Options) -> anyhow::Result<bool> {
+    fn work_file(
+        &self,
+        path: &str,
+        number: u32,
+        day: RunDay,
+        options: Options,
+    ) -> anyhow::Result<bool> {
         let Some(bytes) = self.load(path)? else {
             return Ok(false);
         };
-        let source = FileSource::new(&bytes);
-        let verdict = source.verdict();
-        self.say_verdict(path, &bytes, verdict)?;
-        if verdict.is_err() {
+        if options.direct {
+            let source = FileSource::new(&bytes);
+            self.say_verdict(path, &bytes, source.verdict())?;
+            self.work_checked(source.verdict().is_ok(), source, day, options)
+        } else {
+            let source = DayTable::build(self.rt.alloc(), &bytes, number)?;
+            self.say_verdict(path, &bytes, source.verdict())?;
+            self.work_checked(source.verdict().is_ok(), source, day, options)
+        }
+    }
+
+    // False where the file of the source is refused, and then nothing is worked.
+    fn work_checked<S: Source + Drop>(
+        &self,
+        sound: bool,
+        source: S,
+        day: RunDay,
+        options: Options,
+    ) -> anyhow::Result<bool> {
+        if !sound {
             return Ok(false);
         }
         let run = Run::open(day, options.rule);
