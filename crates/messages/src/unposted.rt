@@ -34,7 +34,10 @@ fn write_unposted<W: fmt::Write>(f: &mut fmt::Formatter<W>, refusal: PostRefusal
         PostRefusal::NotReserved => f.write_str("the book has no reservation of the day"),
         PostRefusal::OtherDay => f.write_str("the sheet is of another day"),
         PostRefusal::TooShort => {
-            write!(f, "fewer than {LAST_INTERVAL} intervals of the day are worked")
+            write!(
+                f,
+                "fewer than {LAST_INTERVAL} intervals of the day are worked"
+            )
         }
         PostRefusal::FewRows => write!(f, "the list of bills has fewer than {ENTITIES} rows"),
     }
