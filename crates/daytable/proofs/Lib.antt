@@ -1,3 +1,4 @@
+pub mod Bounded
 pub mod Placing
 pub mod Spread
 pub mod Headed

@@ -10,11 +10,19 @@ use Rattle.detfile.specs.Keys.{covers_of}
 use Rattle.detfile.specs.Values.{given_by}
 use Rattle.filesource.specs.Asks.{value_says}
 use Rattle.daytable.specs.Cuts.{place}
+use Rattle.daytable.proofs.Bounded.{given_small}
 use Rattle.daytable.proofs.Placing.{put_says}
 use Rattle.daytable.proofs.filling.put_field.Goals as goal
 
 turned : (x a s t : Answer) → x ≡ later a s → s ≡ t → x ≡ later a t
 turned x a s t e f = e ∙ ap (later a) f
+
+pub narrowed-requires : goal.narrowed-requires
+narrowed-requires c =
+    let z = c.in-Ok-Some.number in
+    let given = sym c.given_value.ensures ∙ c.in-Ok-Some.is ∙ ap Ok c.in-Ok-Some.field-0-is in
+    let fits : FitsSigned w64 z = search rules in
+    rw (to_z-of_z w64 z fits) (given_small c.args.determinant (seen c.args.token) z given)
 
 pub returns-in-Ok-Some-clause-says : goal.returns-in-Ok-Some-clause-says
 returns-in-Ok-Some-clause-says c =
