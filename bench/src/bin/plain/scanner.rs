@@ -1,4 +1,5 @@
-//! Reading fields byte by byte, from left to right, each byte once.
+//! Reading fields byte by byte, from left to right, each byte once. What is called for each field is always inlined, so that the place
+//! in the file stays in a register.
 
 use crate::figures::ABSENT;
 
@@ -30,7 +31,7 @@ const MOST_KEY_DIGITS: usize = 5;
 
 const POWERS: [u64; 7] = [1, 10, 100, 1_000, 10_000, 100_000, 1_000_000];
 
-/// Some digits: the number that they write, of which only ten digits or fewer are exact, and how many they are.
+/// Some digits: how many they are and the number that they write, which is right for ten digits and fewer.
 #[derive(Clone, Copy)]
 struct Digits {
     value: u64,
@@ -57,20 +58,20 @@ impl<'a> Scanner<'a> {
     }
 
     /// The next byte; after the last a zero byte, which no field has room for.
-    #[inline]
+    #[inline(always)]
     fn peek(&self) -> u8 {
         self.bytes.get(self.at).copied().unwrap_or(0)
     }
 
     /// Passes over the next byte, where it is this one.
-    #[inline]
+    #[inline(always)]
     fn skip(&mut self, byte: u8) -> bool {
         let is_next = self.peek() == byte;
         self.at += usize::from(is_next);
         is_next
     }
 
-    #[inline]
+    #[inline(always)]
     fn end(&mut self, end: End) -> Result<(), Fault> {
         if self.skip(end.byte()) {
             Ok(())
@@ -79,23 +80,25 @@ impl<'a> Scanner<'a> {
         }
     }
 
-    #[inline]
+    #[inline(always)]
     fn digits(&mut self) -> Digits {
-        let start = self.at;
+        let rest = self.bytes.get(self.at..).unwrap_or_default();
         let mut value: u64 = 0;
-        loop {
-            let digit = self.peek().wrapping_sub(b'0');
+        let mut count = 0;
+        for byte in rest {
+            let digit = byte.wrapping_sub(b'0');
             if digit > 9 {
-                let count = self.at - start;
-                return Digits { value, count };
+                break;
             }
             value = value.wrapping_mul(10).wrapping_add(u64::from(digit));
-            self.at += 1;
+            count += 1;
         }
+        self.at += count;
+        Digits { value, count }
     }
 
     /// A number of one to five digits, from `low` to `high`, and the space after it.
-    #[inline]
+    #[inline(always)]
     pub fn number(&mut self, low: u64, high: u64) -> Result<usize, Fault> {
         let Digits { value, count } = self.digits();
         let is_short = (1..=MOST_KEY_DIGITS).contains(&count);
@@ -107,7 +110,7 @@ impl<'a> Scanner<'a> {
     }
 
     /// A star and the space after it, where they are next.
-    #[inline]
+    #[inline(always)]
     pub fn star(&mut self) -> bool {
         let is_next = self.peek() == b'*' && self.bytes.get(self.at + 1) == Some(&b' ');
         self.at += 2 * usize::from(is_next);
@@ -115,7 +118,7 @@ impl<'a> Scanner<'a> {
     }
 
     /// A stored number, or `ABSENT` for a dash, and the end after it.
-    #[inline]
+    #[inline(always)]
     pub fn figure(&mut self, decimals: usize, end: End) -> Result<i32, Fault> {
         let is_negative = self.skip(b'-');
         if is_negative && self.skip(end.byte()) {
@@ -131,7 +134,7 @@ impl<'a> Scanner<'a> {
     }
 
     /// A figure with no sign, times ten to the decimals.
-    #[inline]
+    #[inline(always)]
     fn magnitude(&mut self, decimals: usize) -> Result<u64, Fault> {
         let whole = self.digits();
         if !(1..=MOST_WHOLE_DIGITS).contains(&whole.count) {
