@@ -1,7 +1,7 @@
 //! Writing determinant files.
 
 use crate::figure::Figure;
-use crate::market::{ENTITIES, Market};
+use crate::market::{ENTITIES, Market, READINGS};
 use crate::random::Random;
 use std::fmt::{Error, Write};
 
@@ -14,9 +14,6 @@ pub const DAY: u32 = 20_100;
 const INTERVALS: u32 = 96;
 const NAMES: &str = "DAY UNIT INT OWNER VSSVARIOL URLLAG URLLEAD RTVAR HSL LSL RTSPP RTHSLAIEC RTVSSAIEC RTMG LRS VSSVARPR\n";
 const REACTIVE_PRICE: i64 = 265;
-
-/// Columns before those of the share and the price.
-const READINGS: usize = 11;
 
 /// A file of a market that comes to be, line by line.
 pub struct DayFile {
@@ -117,7 +114,7 @@ impl DayFile {
         Ok(())
     }
 
-    /// The share, the price and the end of the line.
+    /// The last two columns, and the end of the line.
     fn write_last(&mut self, share: Figure, price: Figure) -> Result<(), Error> {
         writeln!(self.text, " {share} {price}")
     }

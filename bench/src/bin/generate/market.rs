@@ -6,6 +6,9 @@ use crate::random::Random;
 pub const ENTITIES: usize = 64;
 pub const RESOURCES: usize = 128;
 
+/// How many figures a Resource has in an interval.
+pub const READINGS: usize = 11;
+
 const WHOLE_LOAD: i64 = 1_000_000;
 
 /// These Resources lack a cost, one of every so many.
@@ -30,8 +33,8 @@ pub struct Market {
     pub resources: Vec<Resource>,
 }
 
-/// The eleven figures of a Resource in an interval, in the order of the columns.
-pub type Readings = [Figure; 11];
+/// The figures of a Resource in an interval, in the order of the columns.
+pub type Readings = [Figure; READINGS];
 
 impl Market {
     pub fn new(random: &mut Random) -> Market {
