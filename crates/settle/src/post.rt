@@ -71,7 +71,7 @@ impl<R: Files + Clock + Print + Eprint + AllocGlobal> Watch for Teller<'_, R> {
 
 impl<R: Files + Clock + Print + Eprint + AllocGlobal> Console<'_, R> {
     // A day worked from a file and posted to a book; false where something is refused, the run stops or the command is wrong, and then the
-    // book is as it was.
+    // book is as it was, and where the posted book's folder cannot be synced.
     pub(crate) fn post(
         &self,
         book: &str,
@@ -142,7 +142,7 @@ impl<R: Files + Clock + Print + Eprint + AllocGlobal> Console<'_, R> {
         posted
     }
 
-    // True where the book is written, and then the file beside it has its name.
+    // True where the book is written and its folder synced; the file beside it then has the book's name.
     fn post_beside<S: Source + Drop>(
         &self,
         posting: Posting<'_>,
@@ -167,7 +167,7 @@ impl<R: Files + Clock + Print + Eprint + AllocGlobal> Console<'_, R> {
         }
         println!(self.rt; "{path}: day {day} posted")?;
         if let Err(fault) = sync_folder(self.rt, path) {
-            self.complain(format_args!("{path}: {fault}"))?;
+            return self.refuse(format_args!("{path}: {fault}"));
         }
         Ok(true)
     }
