@@ -1,14 +1,15 @@
 -- The cuts that took in a file answer as the file does, about their day.
-use Rattle.std.proofs.Common.{◌≡◌, ℕ, ◌≤◌, Bool, true, false, cond, ◌&&◌, eqb, leb, List, ℤ, Ok, unsigned_abs, refl, sym, ap, ◌∙◌, subst}
-use Rattle.std.proofs.lemmas.Bool.{and_parts, leb-true, eqb-true}
+use Rattle.std.proofs.Common.{◌≡◌, ℕ, ◌≤◌, Bool, true, false, cond, ◌&&◌, eqb, leb, List, length, ℤ, Ok, Err, Result, IfOk, unsigned_abs, refl, sym, ap, ◌∙◌, subst}
+use Rattle.std.proofs.lemmas.Bool.{and_parts, leb-true, le-leb, eqb-true}
 use Rattle.terms.specs.Answers.{Sized}
 use Rattle.terms.specs.Decisions.{decide}
 use Rattle.terms.specs.Limits.{last_determinant, last_unit, last_day, last_interval, most_stored, inside}
 use Rattle.terms.specs.declared.answer.Answer.{Answer}
 use Rattle.terms.specs.declared.answer.Answer.TheVariants.{NoCut, Figure}
 use Rattle.terms.specs.declared.determinant.Determinant.{Determinant}
-use Rattle.detfile.specs.Files.{names_cut, judged}
-use Rattle.detfile.specs.Lines.{lines}
+use Rattle.detfile.specs.declared.refusal.FileRefusal.{FileRefusal}
+use Rattle.detfile.specs.Files.{most_bytes, names_cut, judged}
+use Rattle.detfile.specs.Lines.{lines, lines_judged}
 use Rattle.filesource.specs.Asks.{line_says, asked}
 use Rattle.filesource.specs.AsksKept.{asked_laws}
 use Rattle.filesource.proofs.AskSteps.{asked_open}
@@ -44,6 +45,18 @@ module _ (bs : List ℕ) (day : ℕ) where
       let answered : cuts_say cs d u i ≡ decide (line_says ks d u day i) NoCut (lines vs) = says d u i room ∙ ap (λ a. decide (line_says ks d u day i) a (lines vs)) (blank d u i room) in
       asked_open bs d u y i (cuts_say cs d u i) ks vs e (rw (j, c) refl) (rw (j, c) refl) (rw (eqb-true y day t) answered))
       (λ f. rw f refl)
+
+  -- the verdict where the names line is one is that on the value lines
+  pub judged_lines : (ks : List Determinant) (vs : List ℕ) → length bs ≤ most_bytes → names_cut bs ≡ Ok (ks, vs) → judged bs ≡ lines_judged ks 0 (lines vs)
+  judged_lines ks vs h c = rw (le-leb (length bs) most_bytes h, c) refl
+
+  -- and any file, as far as it is accepted
+  pub filled_where : (ks : List Determinant) (vs : List ℕ) (r : Result ℕ FileRefusal) (before cs : List Cut) → judged bs ≡ r → names_cut bs ≡ Ok (ks, vs)
+      → ((d u i : ℕ) → Roomy d u i → cuts_say before d u i ≡ NoCut)
+      → IfOk r (λ _. (d u i : ℕ) → Roomy d u i → cuts_say cs d u i ≡ decide (line_says ks d u day i) (cuts_say before d u i) (lines vs))
+      → IfOk r (λ _. (d u y i : ℕ) → tabled day cs d u y i ≡ cond (eqb y day) (asked bs d u y i) NoCut)
+  filled_where ks vs (Ok n) before cs j c blank says = filled ks vs n before cs j c blank says
+  filled_where ks vs (Err e) before cs j c blank says = tt
 
   -- so its figures lie within the stored range
   pub figures_within : (cs : List Cut) → ((d u y i : ℕ) → tabled day cs d u y i ≡ cond (eqb y day) (asked bs d u y i) NoCut) → (d u y i : ℕ) (z : ℤ) → tabled day cs d u y i ≡ Figure z → unsigned_abs z ≤ most_stored

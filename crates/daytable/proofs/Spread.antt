@@ -1,5 +1,5 @@
 -- The fields of a line, one after the other.
-use Rattle.std.proofs.Common.{◌≡◌, ℕ, Bool, true, false, cond, ◌&&◌, ◌||◌, eqb, List, [], ◌∷◌, refl, sym, ap, ◌∙◌, subst}
+use Rattle.std.proofs.Common.{◌≡◌, ℕ, Bool, true, false, cond, ◌&&◌, ◌||◌, eqb, List, [], ◌∷◌, ℤ, Ok, Err, Option, Result, refl, sym, ap, ◌∙◌, subst}
 use Rattle.std.proofs.lemmas.Bool.{eqb-true}
 use Rattle.terms.specs.Answers.{later}
 use Rattle.terms.specs.Determinants.{number_of}
@@ -7,8 +7,10 @@ use Rattle.terms.specs.declared.answer.Answer.{Answer}
 use Rattle.terms.specs.declared.answer.Answer.TheVariants.{NoCut}
 use Rattle.terms.specs.declared.determinant.Determinant.{Determinant}
 use Rattle.figures.specs.Cuts.{first_field, past_field}
+use Rattle.figures.specs.declared.numbers.Fault.{Fault}
+use Rattle.detfile.specs.Keys.{then}
 use Rattle.detfile.specs.Names.{held}
-use Rattle.detfile.specs.Values.{given}
+use Rattle.detfile.specs.Values.{given, values_fault}
 use Rattle.filesource.specs.Asks.{value_says, column_says}
 use Rattle.daytable.specs.Columns.{Apart}
 
@@ -40,3 +42,11 @@ pub field_more : (l : List Determinant) (k : Determinant) (ks : List Determinant
 field_more l k ks e apart =
     let h = subst Apart e apart in
     (h.1, λ m d c bs a b g. field_spread m d k ks c bs a b h.0 g ∙ ap (λ x. later a (cond m (column_says x d c bs) NoCut)) (sym e))
+
+-- a field that is not at fault leaves the verdict to those after it
+pub sound_first : (l : List Determinant) (k : Determinant) (ks : List Determinant) (bs : List ℕ) (x : Unit {0}) → l ≡ k ∷ ks → then (given k (first_field bs)) (λ _. Ok tt) ≡ Ok x → values_fault ks (past_field bs) ≡ values_fault l bs
+sound_first l k ks bs x e h = by (given k (first_field bs)) h ∙ ap (λ ds. values_fault ds bs) (sym e)
+  where
+    by : (r : Result (Option ℤ) Fault) → then {Y = Unit {0}} r (λ _. Ok tt) ≡ Ok x → values_fault ks (past_field bs) ≡ then r (λ _. values_fault ks (past_field bs))
+    by (Ok o) t = refl
+    by (Err f) t = cc

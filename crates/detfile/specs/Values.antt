@@ -1,5 +1,5 @@
 -- What the fields of the determinants say. Assumes nothing.
-use Rattle.std.specs.Prelude.{ℕ, ◌+◌, cond, ◌&&◌, List, [], ◌∷◌, length, ℤ, Some, None, Ok, Err, Option, Result, ◌==◌, nat_le}
+use Rattle.std.specs.Prelude.{ℕ, ◌+◌, Bool, cond, ◌&&◌, List, [], ◌∷◌, length, ℤ, Some, None, Ok, Err, Option, Result, ◌==◌, nat_le}
 use Rattle.terms.specs.declared.determinant.Determinant.{Determinant}
 use Rattle.figures.specs.Cuts.{first_field, past_field, spaces}
 use Rattle.figures.specs.Numbers.{stored}
@@ -34,6 +34,10 @@ abbrev pub located : ℕ → Result (Unit {0}) Fault → Result (Unit {0}) FileR
 located n (Ok x) = Ok tt
 located n (Err e) = Err (fault_at e n)
 
+-- a line's length and number of fields, three and one for each column
+abbrev pub shaped : List Determinant → List ℕ → Bool
+shaped ks bs = nat_le (length bs) most_line && spaces bs == length ks + 2
+
 -- line n of the file, a value line: its length and number of fields, then its fields
 abbrev pub line_judged : List Determinant → ℕ → List ℕ → Result (Unit {0}) FileRefusal
-line_judged ks n bs = cond (nat_le (length bs) most_line && spaces bs == length ks + 2) (located n (fields_fault ks bs)) (Err (Shape n))
+line_judged ks n bs = cond (shaped ks bs) (located n (fields_fault ks bs)) (Err (Shape n))

@@ -2,7 +2,7 @@
 ghost use Rattle.std.specs.Prelude.{◌≡◌};
 ghost use Rattle.figures.specs.Tokens.{seen};
 ghost use Rattle.detfile.specs.Names.{columns_in};
-ghost use Rattle.detfile.specs.Values.{given_by, values_fault, fields_fault, line_judged};
+ghost use Rattle.detfile.specs.Values.{given_by, values_fault, fields_fault, shaped, line_judged};
 
 use crate::columns::Columns;
 use crate::fields::Fields;
@@ -26,7 +26,7 @@ pub fn given_value(token: Token<'_>, determinant: Determinant) -> Result<Option<
 }
 
 // Checks the fields of the determinants, from left to right.
-fn check_values(columns: &[Determinant], fields: &[u8]) -> Result<(), Fault>
+pub fn check_values(columns: &[Determinant], fields: &[u8]) -> Result<(), Fault>
     ensures { result ≡ values_fault columns.now fields.now }
 {
     let mut rest = fields;
@@ -47,12 +47,19 @@ fn check_fields(columns: &[Determinant], line: &[u8]) -> Result<(), Fault>
     check_values(columns, fields.values)
 }
 
+// Whether a value line is at most as long as a line may be, and has as many fields as the names line.
+pub fn is_shaped(columns: &[Determinant], line: &[u8]) -> bool
+    ensures { result ≡ shaped columns.now line.now }
+{
+    line.len() <= MOST_LINE && count_spaces(line) == columns.len() + 2
+}
+
 // Checks a value line, which is line `number` of the file.
 pub(crate) fn check_line(columns: &Columns, line: &[u8], number: u32) -> Result<(), FileRefusal>
     ensures { result ≡ line_judged (columns_in columns.now) number line.now }
 {
     let columns = columns.as_slice();
-    if line.len() > MOST_LINE || count_spaces(line) != columns.len() + 2 {
+    if !is_shaped(columns, line) {
         return Err(FileRefusal::Shape(number));
     }
     check_fields(columns, line).map_err(|fault| FileRefusal::at(fault, number))

@@ -29,9 +29,12 @@ abbrev pub key_says : List Determinant → ℕ → ℕ → ℕ → ℕ → List 
 key_says ks d u y i bs (Err e) = NoCut
 key_says ks d u y i bs (Ok k) = cond (k.day == y && k.unit == u) (column_says ks d (covers_of k.interval i) bs) NoCut
 
--- what a line says of a question: something where its day and unit are those asked
+-- what the bytes of a line say of a question: something where their day and unit are those asked
+abbrev pub bytes_say : List Determinant → ℕ → ℕ → ℕ → ℕ → List ℕ → Answer
+bytes_say ks d u y i l = key_says ks d u y i (values_part l) (key_of l)
+
 abbrev pub line_says : List Determinant → ℕ → ℕ → ℕ → ℕ → Line → Answer
-line_says ks d u y i (ended l) = key_says ks d u y i (values_part l) (key_of l)
+line_says ks d u y i (ended l) = bytes_say ks d u y i l
 line_says ks d u y i (unended l) = NoCut
 
 -- what a file answers; one that is refused has no value lines

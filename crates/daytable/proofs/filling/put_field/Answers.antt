@@ -19,17 +19,17 @@ turned x a s t e f = e ∙ ap (later a) f
 
 pub narrowed-requires : goal.narrowed-requires
 narrowed-requires c =
-    let z = c.in-Ok-Some.number in
-    let given = sym c.given_value.ensures ∙ c.in-Ok-Some.is ∙ ap Ok c.in-Ok-Some.field-0-is in
+    let z = c.in-Some.number in
+    let given = sym c.given_value.ensures ∙ c.in_ok-number.was ∙ ap Ok c.in-Some.is in
     let fits : FitsSigned w64 z = search rules in
     rw (to_z-of_z w64 z fits) (given_small c.args.determinant (seen c.args.token) z given)
 
-pub returns-in-Ok-Some-clause-says : goal.returns-in-Ok-Some-clause-says
-returns-in-Ok-Some-clause-says c =
+pub returns-in-Some-clause-says : goal.returns-in-Some-clause-says
+returns-in-Some-clause-says c =
     let k = c.args.determinant in
     let key = c.args.key in
-    let z = c.in-Ok-Some.number in
-    let given : given_by k (seen c.args.token) ≡ Ok (Some z) = sym c.given_value.ensures ∙ c.in-Ok-Some.is ∙ ap Ok c.in-Ok-Some.field-0-is in
+    let z = c.in-Some.number in
+    let given : given_by k (seen c.args.token) ≡ Ok (Some z) = sym c.given_value.ensures ∙ c.in_ok-number.was ∙ ap Ok c.in-Some.is in
     let fits : FitsSigned w64 z = search rules in
     let narrow : FitsSigned w32 c.narrowed.result = search rules in
     let number = to_z-of_z w32 c.narrowed.result narrow ∙ c.narrowed.ensures ∙ to_z-of_z w64 z fits in
