@@ -35,8 +35,8 @@ impl DayTable {
     ghost use Rattle.detfile.specs.Files.{judged};
     ghost use Rattle.filesource.specs.Asks.{asked};
 
-    // Checks a file and takes in what it says of the day: each byte is looked at for the check and once more for the table, and each number
-    // of the day is written once, or 96 times where the line is for every interval. The bytes may be let go afterwards.
+    // Checks a file and takes in what it says of the day, in one pass: each line is checked and taken in at once, and each number of the
+    // day is written once, or 96 times where the line is for every interval. The bytes may be let go afterwards.
     pub fn build(alloc: Global, bytes: &[u8], day: u32) -> Result<DayTable, Unbuilt>
         ensures verdict { IfOk result (λ t. t.verdict ≡ judged bytes.now) }
         ensures table { IfOk result (λ t. (d u y i : ℕ) → tabled t.day t.cuts.items d u y i ≡ cond (y == day) (asked bytes.now d u y i) NoCut) }
