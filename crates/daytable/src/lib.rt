@@ -4,5 +4,6 @@
 mod cut;
 mod filling;
 mod place;
+pub mod room;
 pub mod table;
 pub mod unbuilt;

@@ -6,18 +6,12 @@ ghost use Rattle.daytable.specs.Cuts.{cut_count, tabled};
 
 use crate::cut::Cut;
 use crate::filling::fill;
-use crate::place::{CUTS, place_of};
-use crate::unbuilt::Unbuilt;
+use crate::place::place_of;
+use crate::room::Room;
 use detfile::refusal::FileRefusal;
-use std::alloc::Global;
 use terms::answer::Answer;
 use terms::question::Question;
 use terms::source::Source;
-
-// The most bytes that the cuts may take.
-const MOST_MEMORY: usize = 2 << 20;
-
-const _: () = prove!(size_of::<Cut>() * CUTS <= MOST_MEMORY);
 
 // What a file says of one day, a cut for each determinant and unit, and the verdict on the file. It owns its memory, which is taken once.
 #[derive(Drop)]
@@ -30,20 +24,20 @@ pub struct DayTable {
 }
 
 impl DayTable {
-    ghost use Rattle.std.specs.Prelude.{cond, ◌==◌, IfOk};
+    ghost use Rattle.std.specs.Prelude.{cond, ◌==◌};
     ghost use Rattle.terms.specs.declared.answer.Answer.TheVariants.{NoCut};
     ghost use Rattle.detfile.specs.Files.{judged};
     ghost use Rattle.filesource.specs.Asks.{asked};
 
     // Checks a file and takes in what it says of the day, in one pass: each line is checked and taken in at once, and each number of the
     // day is written once, or 96 times where the line is for every interval. The bytes may be let go afterwards.
-    pub fn build(alloc: Global, bytes: &[u8], day: u32) -> Result<DayTable, Unbuilt>
-        ensures verdict { IfOk result (λ t. t.verdict ≡ judged bytes.now) }
-        ensures table { IfOk result (λ t. (d u y i : ℕ) → tabled t.day t.cuts.items d u y i ≡ cond (y == day) (asked bytes.now d u y i) NoCut) }
+    pub fn build(room: Room, bytes: &[u8], day: u32) -> DayTable
+        ensures verdict { result.verdict ≡ judged bytes.now }
+        ensures table { (d u y i : ℕ) → tabled result.day result.cuts.items d u y i ≡ cond (y == day) (asked bytes.now d u y i) NoCut }
     {
-        let mut cuts = vec![in alloc; Cut::Nothing; CUTS]?;
+        let Room { mut cuts } = room;
         let verdict = fill(&mut cuts, day, bytes);
-        Ok(DayTable { verdict, day, cuts })
+        DayTable { verdict, day, cuts }
     }
 
     // How many value lines the file has, or why it is refused.

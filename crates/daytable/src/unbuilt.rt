@@ -1,4 +1,4 @@
-// Why a table of a day is not built.
+// Why there is no room for a table of a day.
 ghost use Rattle.std.specs.Prelude.{◌≡◌, Some, codes};
 ghost use Rattle.daytable.specs.declared.unbuilt.Unbuilt.TheVariants.{Memory};
 

@@ -7,6 +7,7 @@ use amounts::row::Amounts;
 use books::place::Place;
 use books::refusal::BookRefusal;
 use books::shelf::Shelf;
+use daytable::room::Room;
 use daytable::table::DayTable;
 use filesource::source::FileSource;
 use imagebook::bytes::Image;
@@ -98,7 +99,7 @@ impl<R: Files + Clock + Print + Eprint + AllocGlobal> Console<'_, R> {
             self.say_verdict(path, &bytes, source.verdict())?;
             self.post_checked(source.verdict().is_ok(), posting, source)
         } else {
-            let source = DayTable::build(self.rt.alloc(), &bytes, u32::from(posting.day))?;
+            let source = DayTable::build(Room::new(self.rt.alloc())?, &bytes, u32::from(posting.day));
             self.say_verdict(path, &bytes, source.verdict())?;
             self.post_checked(source.verdict().is_ok(), posting, source)
         }

@@ -1,6 +1,7 @@
 // `settle work FILE DAY [--rule away|even] [--fill] [--direct]`
 use crate::console::Console;
 use crate::options::{Options, day_and_options};
+use daytable::room::Room;
 use daytable::table::DayTable;
 use filesource::source::FileSource;
 use intervals::warning::Warning;
@@ -52,7 +53,7 @@ impl<R: Files + Clock + Print + Eprint + AllocGlobal> Console<'_, R> {
             self.say_verdict(path, &bytes, source.verdict())?;
             self.work_checked(source.verdict().is_ok(), source, day, options)
         } else {
-            let source = DayTable::build(self.rt.alloc(), &bytes, number)?;
+            let source = DayTable::build(Room::new(self.rt.alloc())?, &bytes, number);
             self.say_verdict(path, &bytes, source.verdict())?;
             self.work_checked(source.verdict().is_ok(), source, day, options)
         }

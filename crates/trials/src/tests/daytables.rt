@@ -1,5 +1,6 @@
 // What the table of a day answers.
 use super::{Ask, check_asks, question};
+use daytable::room::Room;
 use daytable::table::DayTable;
 use daytable::unbuilt::Unbuilt;
 use filesource::source::FileSource;
@@ -37,7 +38,7 @@ const SECOND_DAY: [Ask; 4] = [
 ];
 
 fn check_table(rt: &impl Abort, heap: Global, day: u32, asks: &[Ask]) -> Result<(), Fail> {
-    let table = DayTable::build(heap, FILE, day)?;
+    let table = DayTable::build(Room::new(heap)?, FILE, day);
     assert_eq!(rt; table.verdict().ok(), Some(7));
     check_asks(rt, &table, asks);
     Ok(())
@@ -53,7 +54,7 @@ fn tables_of_days(rt: HostRuntime) -> Result<(), Fail> {
 #[test]
 fn as_the_file(rt: HostRuntime) -> Result<(), Fail> {
     let file = FileSource::new(FILE);
-    let table = DayTable::build(rt.alloc(), FILE, 1)?;
+    let table = DayTable::build(Room::new(rt.alloc())?, FILE, 1);
     for determinant in 0..=14 {
         for unit in 0..=128 {
             for interval in 0..=97 {
@@ -68,10 +69,10 @@ fn as_the_file(rt: HostRuntime) -> Result<(), Fail> {
 #[test]
 fn refused_table(rt: HostRuntime) -> Result<(), Fail> {
     let table = DayTable::build(
-        rt.alloc(),
+        Room::new(rt.alloc())?,
         b"DAY UNIT INT RTSPP\n1 2 7 2.65\n1 2 8 2.650\n",
         1,
-    )?;
+    );
     let refusal = table.verdict().err();
     assert_eq!(rt;
         refusal.map(|refusal| (refusal.number(), refusal.line())),

@@ -7,7 +7,7 @@ use Rattle.daytable.proofs.table.DayTable.build.Goals as goal
 
 pub invariant_of-result : goal.invariant_of-result
 invariant_of-result c =
-    let v = c.in_ok-cuts.cuts in
+    let v = c.args.room.cuts in
     let cs = c.fill-verdict.new.cuts in
     let long : length cs ≡ v.len = search rules in
     let held = with_items_is v cs long in
