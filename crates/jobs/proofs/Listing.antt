@@ -7,8 +7,8 @@ use Rattle.amounts.specs.declared.row.Amounts.{Amounts}
 use Rattle.intervals.specs.declared.warning.Warning.{Warning}
 use Rattle.books.specs.Kept.{Kept}
 use Rattle.accounts.specs.Histories.{History, Accounts}
-use Rattle.jobs.specs.Jobs.{Done, job}
-use Rattle.jobs.specs.Lists.{End, State, begun, nothing_known, no_end, after_job, jobs}
+use Rattle.jobs.specs.Jobs.{Done, job, job_watched}
+use Rattle.jobs.specs.Lists.{End, State, begun, nothing_known, no_end, after_job, jobs, jobs_watched}
 
 -- a book that kept k₀ and keeps k, the ends and the warnings are those of the state
 pub record Stands (s : State) (k₀ k : Kept) (es : List End) (ws : List Warning) : Type 0 where
@@ -46,3 +46,22 @@ module _ (rd : ℤ → ℕ → ℤ) (tables : List Table) (d : ℕ) where
           warnings = u-is;
           law = λ h accounts. rw append_assoc (law ((jobs rd tables d s n).calls ++ h) (so.law h accounts));
         }))
+
+  module _ {S : Type 0} (tell : S → ℕ → List Warning → S) where
+    pub watch_none : (b : State) (s : S) → s ≡ jobs_watched tell rd tables d b s 0
+    unfolding jobs_watched
+    watch_none b s = refl
+
+    watch_next : (b : State) (n : ℕ) (s : S) → jobs_watched tell rd tables d b s (suc n) ≡ job_watched tell (get_or tables n nothing_known) d (jobs rd tables d b n).warnings (jobs rd tables d b n).kept (jobs_watched tell rd tables d b s n)
+    unfolding jobs_watched
+    watch_next b n s = refl
+
+    -- what the watch makes of one job more
+    pub watch_more : (b : State) (n : ℕ) (k₀ k : Kept) (es : List End) (ws : List Warning) → Stands (jobs rd tables d b n) k₀ k es ws → (t : Table) → t ≡ get_or tables n nothing_known → (s z v : S) → z ≡ jobs_watched tell rd tables d b s n → v ≡ job_watched tell t d ws k z → v ≡ jobs_watched tell rd tables d b s (n + 1)
+    watch_more b n k₀ k es ws so t t-is s z v before now =
+        rw add-one (now
+        ∙ ap (λ x. job_watched tell x d ws k z) t-is
+        ∙ ap (λ x. job_watched tell (get_or tables n nothing_known) d x k z) so.warnings
+        ∙ ap (λ x. job_watched tell (get_or tables n nothing_known) d (jobs rd tables d b n).warnings x z) so.kept
+        ∙ ap (λ x. job_watched tell (get_or tables n nothing_known) d (jobs rd tables d b n).warnings (jobs rd tables d b n).kept x) before
+        ∙ sym (watch_next b n s))

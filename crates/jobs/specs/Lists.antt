@@ -9,7 +9,7 @@ use Rattle.books.specs.Kept.{Kept}
 use Rattle.accounts.specs.Histories.{History}
 use Rattle.jobs.specs.declared.ending.JobEnd.{JobEnd}
 use Rattle.jobs.specs.Refusals.{told}
-use Rattle.jobs.specs.Jobs.{Done, job}
+use Rattle.jobs.specs.Jobs.{Done, job, job_watched}
 
 -- how a job ended, and its bill rows
 pub record End : Type 0 where
@@ -44,3 +44,8 @@ module _ (rounded : ℤ → ℕ → ℤ) (tables : List Table) (d : ℕ) (s : St
   unfoldable pub jobs : ℕ → State
   jobs zero = s
   jobs (suc n) = after_job (jobs n) n (job rounded (slice_index_or tables n nothing_known) d (slice_index_or (jobs n).ends n no_end).bills (jobs n).warnings (jobs n).kept)
+
+-- what a watch makes of the first n jobs, one after the other
+unfoldable pub jobs_watched : {S : Type 0} → (S → ℕ → List Warning → S) → (ℤ → ℕ → ℤ) → List Table → ℕ → State → S → ℕ → S
+jobs_watched tell rounded tables d b s zero = s
+jobs_watched tell rounded tables d b s (suc n) = job_watched tell (slice_index_or tables n nothing_known) d (jobs rounded tables d b n).warnings (jobs rounded tables d b n).kept (jobs_watched tell rounded tables d b s n)
