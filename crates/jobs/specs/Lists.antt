@@ -1,7 +1,7 @@
 -- A list of jobs for one day, one after the other. Assumes nothing.
-use Rattle.std.specs.Prelude.{ℕ, zero, suc, List, [], ◌++◌, ℤ, slice_index_or, slice_set}
+use Rattle.std.specs.Prelude.{◌≡◌, ℕ, zero, suc, ◌<◌, Bool, true, false, List, [], ◌++◌, ℤ, slice_index_or, slice_set}
 use Rattle.terms.specs.declared.answer.Answer.TheVariants.{NoCut}
-use Rattle.terms.specs.Told.{Told, fine}
+use Rattle.terms.specs.Told.{Told, fine, refuse}
 use Rattle.terms.specs.Sources.{Table}
 use Rattle.amounts.specs.declared.row.Amounts.{Amounts}
 use Rattle.intervals.specs.declared.warning.Warning.{Warning}
@@ -35,6 +35,14 @@ nothing_known d u y i = NoCut
 
 abbrev pub no_end : End
 no_end = record { answer = fine 0; bills = [] }
+
+abbrev pub is_refused : Told ℕ → Bool
+is_refused (fine x) = false
+is_refused (refuse n vs) = true
+
+-- the first n jobs were all refused
+abbrev pub AllRefused : List End → ℕ → Type 0
+AllRefused ends n = (q : ℕ) → q < n → is_refused (slice_index_or ends q no_end).answer ≡ true
 
 abbrev pub after_job : State → ℕ → Done → State
 after_job s n x = record { kept = x.kept; ends = slice_set s.ends n (record { answer = x.answer; bills = x.bills }); warnings = x.warnings; calls = x.calls ++ s.calls }

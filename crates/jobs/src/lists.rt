@@ -4,7 +4,7 @@ ghost use Rattle.books.specs.Lists.{new_kept};
 ghost use Rattle.accounts.specs.Histories.{History, Accounts};
 ghost use Rattle.jobs.specs.Refusals.{told};
 ghost use Rattle.jobs.specs.Jobs.{job, job_watched};
-ghost use Rattle.jobs.specs.Lists.{end_told, begun, jobs, jobs_watched};
+ghost use Rattle.jobs.specs.Lists.{end_told, begun, jobs, jobs_watched, AllRefused};
 
 use crate::ending::JobEnd;
 use crate::job::work_job;
@@ -52,6 +52,7 @@ pub fn work_jobs<B: Book, R: Rounding + Copy + Drop, S: Source, W: Watch>(
     ensures ends { map end_told ends.new ≡ (jobs (R.Rounding.rounded rule) (map S.Source.table sources.now) day (begun (B.Book.kept book.old) (map end_told ends.old) warnings.old) result).ends }
     ensures warnings { warnings.new ≡ (jobs (R.Rounding.rounded rule) (map S.Source.table sources.now) day (begun (B.Book.kept book.old) (map end_told ends.old) warnings.old) result).warnings }
     ensures watch { W.Watch.state watch.new ≡ jobs_watched W.Watch.told (R.Rounding.rounded rule) (map S.Source.table sources.now) day (begun (B.Book.kept book.old) (map end_told ends.old) warnings.old) (W.Watch.state watch.old) result }
+    ensures unchanged { AllRefused (map end_told ends.new) result → B.Book.kept book.new ≡ B.Book.kept book.old }
     ensures law { (h : History) → Accounts h (B.Book.kept book.old) → Accounts ((jobs (R.Rounding.rounded rule) (map S.Source.table sources.now) day (begun (B.Book.kept book.old) (map end_told ends.old) warnings.old) result).calls ++ h) (B.Book.kept book.new) }
     ensures new_book { (places : ℕ) → B.Book.kept book.old ≡ new_kept places → Accounts (jobs (R.Rounding.rounded rule) (map S.Source.table sources.now) day (begun (B.Book.kept book.old) (map end_told ends.old) warnings.old) result).calls (B.Book.kept book.new) }
 {

@@ -1,9 +1,9 @@
-use Rattle.std.proofs.Common.{◌≡◌, ℕ, ◌<◌, [], Ok, length, map, get_or, refl, sym, ap, ◌∙◌, arith, subst}
-use Rattle.std.proofs.lemmas.List.{get_or-map, map-set, append-nil}
+use Rattle.std.proofs.Common.{◌≡◌, ℕ, ◌+◌, ◌<◌, [], Ok, length, map, get_or, refl, sym, ap, ◌∙◌, arith, subst}
+use Rattle.std.proofs.lemmas.List.{get_or-map, map-set, append-nil, length-map}
 use Rattle.std.proofs.Math.ListN.{get_or-map as get_or-map_default}
 use Rattle.jobs.specs.declared.ending.JobEnd.{JobEnd}
-use Rattle.jobs.specs.Lists.{End, end_told, begun, jobs, nothing_known}
-use Rattle.jobs.proofs.Listing.{Stands, stands_none, stands_more, watch_none, watch_more}
+use Rattle.jobs.specs.Lists.{End, end_told, begun, jobs, nothing_known, AllRefused}
+use Rattle.jobs.proofs.Listing.{Stands, stands_none, stands_more, watch_none, watch_more, unchanged_more, unchanged_by}
 use Rattle.accounts.specs.Histories.{History, Accounts}
 use Rattle.accounts.proofs.Effects.{law_new}
 use Rattle.jobs.proofs.lists.work_jobs.Goals as goal
@@ -11,7 +11,7 @@ use Rattle.jobs.proofs.lists.work_jobs.Goals as goal
 pub loop-index-init : goal.loop-index-init
 loop-index-init g c =
     let s = stands_none (g.R.Rounding.rounded c.args.rule) (map g.S.Source.table c.args.sources.now) c.args.day (g.B.Book.kept c.args.book.now) (map end_told c.args.ends.now) c.args.warnings.now in
-    record { kept = s.kept; beside = refl; ends = s.ends; warnings = s.warnings; watch = watch_none _ _ _ _ _ _; law = s.law }
+    record { kept = s.kept; beside = refl; ends = s.ends; warnings = s.warnings; watch = watch_none _ _ _ _ _ _; unchanged = λ h. refl; law = s.law }
 
 pub loop-index-preserved : goal.loop-index-preserved
 loop-index-preserved g c =
@@ -36,6 +36,7 @@ loop-index-preserved g c =
       ends = map-set end_told c.loop-index.ends n c.work_to.new.end ∙ s.ends;
       warnings = s.warnings;
       watch = watch_more rd tables c.args.day g.W.Watch.told first n _ _ _ _ so (g.S.Source.table source.result) is (g.W.Watch.state c.args.watch.now) _ _ now.watch w.watch;
+      unchanged = λ all. unchanged_more (map end_told c.loop-index.ends) n (end_told c.work_to.new.end) _ _ _ (omega (arith, length-map c.loop-index.ends end_told)) now.unchanged (unchanged_by c.work_to.new.end.answer w.unchanged) (subst (λ z. AllRefused z (n + 1)) (map-set end_told c.loop-index.ends n c.work_to.new.end) all);
       law = s.law;
     }
 
