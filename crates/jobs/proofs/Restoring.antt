@@ -1,6 +1,6 @@
 -- A refused job leaves what a book keeps as it was.
-use Rattle.std.proofs.Common.{◌≡◌, ℕ, ◌<◌, ◌≤◌, Bool, true, false, ◌==◌, nat_lt, List, [], ◌∷◌, Ok, Err, Result, refl, sym, ap, ◌∙◌, subst, arith}
-use Rattle.terms.specs.Told.{Told, fine}
+use Rattle.std.proofs.Common.{◌≡◌, ℕ, ◌≤◌, Bool, true, false, List, [], ◌∷◌, Ok, Err, Result, refl, sym, ap, ◌∙◌, subst, arith}
+use Rattle.terms.specs.Told.{fine}
 use Rattle.terms.specs.Limits.{last_day}
 use Rattle.amounts.specs.declared.row.Amounts.{Amounts}
 use Rattle.books.specs.declared.place.Place.{Place}
@@ -55,6 +55,7 @@ module _ (k : Kept) (d : ℕ) where
       no Reserved h = cc
       no Full h = cc
       no NotReserved h = cc
+
       go : (r : Result (Unit {0}) BookRefusal) → (reserving k d).answer ≡ r → (reserving k d).after ≡ k
       go (Ok x) is = absurd (no e (so ∙ ap (given d) is))
       go (Err f) is = kept_by f is
@@ -81,8 +82,10 @@ module _ (k : Kept) (d : ℕ) where
     where
       y : Place
       y = marked (entry k d) true (entry k d).billed
+
       held : holds k d ≡ (entry k d).billed
       held = let t = held_taken d k.held sound.each in grind arith
+
       go : (b : Bool) → (entry k d).billed ≡ b → (lifting l d false).after ≡ k
       go true b =
           let e = there l is in
@@ -114,6 +117,7 @@ module _ (k : Kept) (d : ℕ) where
           no OtherDay c h = cc
           no TooShort c h = cc
           no FewRows c h = cc
+
           go : (r : Result ℕ PostRefusal) → (posting m d s bills).answer ≡ r → (posting m d s bills).after ≡ (lifting m d false).after
           go (Ok c) h = absurd (no e c (said ∙ ap post_told h))
           go (Err f) h = let g = took (slip_day d d (reserving k d).answer so).1 in turned f (ap (λ z. z.reserved) (there m (after ∙ g.after))) h

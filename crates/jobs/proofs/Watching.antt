@@ -1,7 +1,7 @@
 -- What a watch is told of a day.
 use Rattle.std.proofs.Common.{◌≡◌, ℕ, zero, suc, ◌+◌, ◌-◌, ◌<◌, Bool, true, false, nat_lt, List, length, take, drop, ℤ, Some, None, Option, refl, sym, ap, ◌∙◌, arith, add-one}
 use Rattle.std.proofs.Math.Seq.{take-append_seam}
-use Rattle.terms.specs.Told.{Told, fine, refuse}
+use Rattle.terms.specs.Told.{Told, fine}
 use Rattle.terms.specs.Sources.{Table}
 use Rattle.intervals.specs.declared.fault.Fault.{Fault}
 use Rattle.intervals.specs.declared.interval.Worked.{Worked}

@@ -10,8 +10,12 @@ use Rattle.jobs.proofs.lists.work_jobs.Goals as goal
 
 pub loop-index-init : goal.loop-index-init
 loop-index-init g c =
-    let s = stands_none (g.R.Rounding.rounded c.args.rule) (map g.S.Source.table c.args.sources.now) c.args.day (g.B.Book.kept c.args.book.now) (map end_told c.args.ends.now) c.args.warnings.now in
-    record { kept = s.kept; beside = refl; ends = s.ends; warnings = s.warnings; watch = watch_none _ _ _ _ _ _; unchanged = λ h. refl; law = s.law }
+    let rd = g.R.Rounding.rounded c.args.rule in
+    let tables = map g.S.Source.table c.args.sources.now in
+    let ends = map end_told c.args.ends.now in
+    let s = stands_none rd tables c.args.day (g.B.Book.kept c.args.book.now) ends c.args.warnings.now in
+    let watch = watch_none rd tables c.args.day g.W.Watch.told (begun (g.B.Book.kept c.args.book.now) ends c.args.warnings.now) (g.W.Watch.state c.args.watch.now) in
+    record { kept = s.kept; beside = refl; ends = s.ends; warnings = s.warnings; watch = watch; unchanged = λ h. refl; law = s.law }
 
 pub loop-index-preserved : goal.loop-index-preserved
 loop-index-preserved g c =
@@ -35,8 +39,8 @@ loop-index-preserved g c =
       beside = w.beside ∙ now.beside;
       ends = map-set end_told c.loop-index.ends n c.work_to.new.end ∙ s.ends;
       warnings = s.warnings;
-      watch = watch_more rd tables c.args.day g.W.Watch.told first n _ _ _ _ so (g.S.Source.table source.result) is (g.W.Watch.state c.args.watch.now) _ _ now.watch w.watch;
-      unchanged = λ all. unchanged_more (map end_told c.loop-index.ends) n (end_told c.work_to.new.end) _ _ _ (omega (arith, length-map c.loop-index.ends end_told)) now.unchanged (unchanged_by c.work_to.new.end.answer w.unchanged) (subst (λ z. AllRefused z (n + 1)) (map-set end_told c.loop-index.ends n c.work_to.new.end) all);
+      watch = watch_more rd tables c.args.day g.W.Watch.told first n (g.B.Book.kept c.args.book.now) (g.B.Book.kept c.loop-index.book) (map end_told c.loop-index.ends) c.loop-index.warnings so (g.S.Source.table source.result) is (g.W.Watch.state c.args.watch.now) (g.W.Watch.state c.loop-index.watch) (g.W.Watch.state c.work_to.new.watch) now.watch w.watch;
+      unchanged = λ all. unchanged_more (map end_told c.loop-index.ends) n (end_told c.work_to.new.end) (g.B.Book.kept c.args.book.now) (g.B.Book.kept c.loop-index.book) (g.B.Book.kept c.work_to.new.book) (omega (arith, length-map c.loop-index.ends end_told)) now.unchanged (unchanged_by c.work_to.new.end.answer w.unchanged) (subst (λ z. AllRefused z (n + 1)) (map-set end_told c.loop-index.ends n c.work_to.new.end) all);
       law = s.law;
     }
 
