@@ -1,4 +1,6 @@
 // A watch that writes down what it is told.
+ghost use Rattle.std.specs.Prelude.{ℕ, ◌+◌, ◌%◌, ◌^◌};
+
 use intervals::warning::Warning;
 use jobs::watch::Watch;
 use std::process::Abort;
@@ -13,6 +15,13 @@ pub struct Counter {
 }
 
 impl Watch for Counter {
+    // How often it was told.
+    ghost State = { ℕ };
+
+    ghost state = { λ w. w.count };
+
+    ghost told = { λ s i rows. (s + 1) % 2 ^ 64 };
+
     fn worked(&mut self, interval: u32, rows: &[Warning], count: usize) {
         if let Some(row) = self.told.get_mut(self.count) {
             *row = interval;
