@@ -37,9 +37,17 @@ module _ (k : Kept) (d : ℕ) (b : Bool) (s : Sound k) where
   unfolding lifting
   given l r = grind arith
 
-  outside : (lifting k d b).answer ≡ Err OutOfRange → last_day < d
+  unreserved : d ≤ last_day → (entry k d).reserved ≡ false → (lifting k d b).answer ≡ Err NotReserved
   unfolding lifting
-  outside h = grind arith
+  unreserved l r = grind arith
+
+  unknown : (lifting k d b).answer ≡ Err OutOfRange → last_day < d
+  unfolding lifting
+  unknown h = grind arith
+
+  outside : last_day < d → (lifting k d b).answer ≡ Err OutOfRange
+  unfolding lifting
+  outside l = grind arith
 
   pub lifts : Lifts k d b
   lifts = record {
@@ -48,5 +56,7 @@ module _ (k : Kept) (d : ℕ) (b : Bool) (s : Sound k) where
     freed = λ h t. let e = cut_after h t in (subst (Changed k d (blank d)) (sym e) (cut_changes k d s.rising), ap (λ l. length l.held + 1) e ∙ cut_held d k.held (is_held h));
     needed = needed;
     given = given;
+    unreserved = unreserved;
+    unknown = unknown;
     outside = outside;
   }

@@ -18,9 +18,14 @@ module _ (k : Kept) (d q : ℕ) (s : Sound k) where
   unfolding reading
   unknown h = grind arith
 
+  outside : (last_day < d) ⊎ (64 ≤ q) → reading k d q ≡ Err OutOfRange
+  unfolding reading
+  outside h = grind arith
+
   pub reads : Reads k d q
   reads = record {
     unknown = unknown;
+    outside = outside;
     absent = λ l m h. read_is k d q l m ∙ ap (λ x. Ok (account x q)) (absent_blank d k.held h) ∙ ap (λ a. Ok (record { reserved = false; billed = false; amounts = a })) (zeros_none q);
     held = λ i l m. read_is k (at k.held i).day q (all_at SoundPlace k.held i s.each l).day m ∙ ap (λ x. Ok (account x q)) (found k.held i s.rising l);
   }

@@ -85,11 +85,19 @@ module _ (k : Kept) (d q : ℕ) (a : Amounts) (s : Sound k) where
   unfolding replacing
   given l m h r = grind arith
 
-  unreserved : (replacing k d q a).answer ≡ Err NotReserved → (entry k d).reserved ≡ false
+  needed : (replacing k d q a).answer ≡ Err NotReserved → (entry k d).reserved ≡ false
   unfolding replacing
-  unreserved h = grind arith
+  needed h = grind arith
 
-  outside : (replacing k d q a).answer ≡ Err OutOfRange → (last_day < d) ⊎ ((64 ≤ q) ⊎ (in_range a ≡ false))
+  unreserved : d ≤ last_day → q < 64 → in_range a ≡ true → (entry k d).reserved ≡ false → (replacing k d q a).answer ≡ Err NotReserved
+  unfolding replacing
+  unreserved l m h r = grind arith
+
+  unknown : (replacing k d q a).answer ≡ Err OutOfRange → (last_day < d) ⊎ ((64 ≤ q) ⊎ (in_range a ≡ false))
+  unfolding replacing
+  unknown h = grind arith
+
+  outside : (last_day < d) ⊎ ((64 ≤ q) ⊎ (in_range a ≡ false)) → (replacing k d q a).answer ≡ Err OutOfRange
   unfolding replacing
   outside h = grind arith
 
@@ -101,6 +109,8 @@ module _ (k : Kept) (d q : ℕ) (a : Amounts) (s : Sound k) where
     same = same;
     places = places;
     given = given;
+    needed = needed;
     unreserved = unreserved;
+    unknown = unknown;
     outside = outside;
   }

@@ -49,13 +49,16 @@ pub record Reserves (k : Kept) (d : ℕ) : Type 0 where
   pub taken : d ≤ last_day → holds k d ≡ false → length k.held ≡ k.places → (reserving k d).answer ≡ Err Full
   pub outside : last_day < d → (reserving k d).answer ≡ Err OutOfRange
 
--- READING, in words: a day that is not held has no mark and no amounts, and one that is has its own
+-- READING, in words: a day that is not held has no mark and no amounts, and one that is has its own. A day or an entity is refused just where
+-- it is out of range
 pub record Reads (k : Kept) (d q : ℕ) : Type 0 where
-  pub unknown : (reading k d q ≡ Err OutOfRange) → (last_day < d) ⊎ (64 ≤ q)
+  pub unknown : reading k d q ≡ Err OutOfRange → (last_day < d) ⊎ (64 ≤ q)
+  pub outside : (last_day < d) ⊎ (64 ≤ q) → reading k d q ≡ Err OutOfRange
   pub absent : d ≤ last_day → q < 64 → holds k d ≡ false → reading k d q ≡ Ok (record { reserved = false; billed = false; amounts = none })
   pub held : (i : ℕ) → i < length k.held → q < 64 → reading k (at k.held i).day q ≡ Ok (account (at k.held i) q)
 
--- REPLACING, in words: refused, it changes nothing; accepted, what was put is what is read, and all else is read as before
+-- REPLACING, in words: refused, it changes nothing; accepted, what was put is what is read, and all else is read as before. It is refused as out
+-- of range just where the day, the entity or the amounts are, and else for want of a reservation just where the day is not reserved
 pub record Replaces (k : Kept) (d q : ℕ) (a : Amounts) : Type 0 where
   pub refused : (e : BookRefusal) → (replacing k d q a).answer ≡ Err e → (replacing k d q a).after ≡ k
   pub there : (replacing k d q a).answer ≡ Ok tt → reading (replacing k d q a).after d q ≡ Ok (record { reserved = true; billed = (entry k d).billed; amounts = a })
@@ -63,15 +66,20 @@ pub record Replaces (k : Kept) (d q : ℕ) (a : Amounts) : Type 0 where
   pub same : (e : ℕ) → holds (replacing k d q a).after e ≡ holds k e
   pub places : (replacing k d q a).after.places ≡ k.places
   pub given : d ≤ last_day → q < 64 → in_range a ≡ true → (entry k d).reserved ≡ true → (replacing k d q a).answer ≡ Ok tt
-  pub unreserved : (replacing k d q a).answer ≡ Err NotReserved → (entry k d).reserved ≡ false
-  pub outside : (replacing k d q a).answer ≡ Err OutOfRange → (last_day < d) ⊎ ((64 ≤ q) ⊎ (in_range a ≡ false))
+  pub needed : (replacing k d q a).answer ≡ Err NotReserved → (entry k d).reserved ≡ false
+  pub unreserved : d ≤ last_day → q < 64 → in_range a ≡ true → (entry k d).reserved ≡ false → (replacing k d q a).answer ≡ Err NotReserved
+  pub unknown : (replacing k d q a).answer ≡ Err OutOfRange → (last_day < d) ⊎ ((64 ≤ q) ⊎ (in_range a ≡ false))
+  pub outside : (last_day < d) ⊎ ((64 ≤ q) ⊎ (in_range a ≡ false)) → (replacing k d q a).answer ≡ Err OutOfRange
 
 -- LIFTING, in words: refused, it changes nothing; accepted, the day is reserved no more; as billed it is marked billed, as unbilled a day that
--- was billed before stays as it is and one that never was gives its place back; and no other day changes
+-- was billed before stays as it is and one that never was gives its place back; and no other day changes. A day is refused as out of range just
+-- where it is, and else for want of a reservation just where it is not reserved
 pub record Lifts (k : Kept) (d : ℕ) (as_billed : Bool) : Type 0 where
   pub refused : (e : BookRefusal) → (lifting k d as_billed).answer ≡ Err e → (lifting k d as_billed).after ≡ k
   pub billed : (lifting k d as_billed).answer ≡ Ok tt → (as_billed || (entry k d).billed) ≡ true → Changed k d (marked (entry k d) false true) (lifting k d as_billed).after
   pub freed : (lifting k d as_billed).answer ≡ Ok tt → (as_billed || (entry k d).billed) ≡ false → Changed k d (blank d) (lifting k d as_billed).after × (length (lifting k d as_billed).after.held + 1 ≡ length k.held)
   pub needed : (lifting k d as_billed).answer ≡ Err NotReserved → (entry k d).reserved ≡ false
   pub given : d ≤ last_day → (entry k d).reserved ≡ true → (lifting k d as_billed).answer ≡ Ok tt
-  pub outside : (lifting k d as_billed).answer ≡ Err OutOfRange → last_day < d
+  pub unreserved : d ≤ last_day → (entry k d).reserved ≡ false → (lifting k d as_billed).answer ≡ Err NotReserved
+  pub unknown : (lifting k d as_billed).answer ≡ Err OutOfRange → last_day < d
+  pub outside : last_day < d → (lifting k d as_billed).answer ≡ Err OutOfRange
