@@ -105,7 +105,11 @@ impl<R: Files + Clock + Print + Eprint + AllocGlobal> Console<'_, R> {
             self.say_verdict(path, &bytes, source.verdict())?;
             self.post_checked(source.verdict().is_ok(), posting, source)
         } else {
-            let source = DayTable::build(Room::new(self.rt.alloc())?, &bytes, u32::from(posting.day));
+            let source = DayTable::build(
+                Room::new(self.rt.alloc())?,
+                &bytes,
+                u32::from(posting.day),
+            );
             self.say_verdict(path, &bytes, source.verdict())?;
             self.post_checked(source.verdict().is_ok(), posting, source)
         }
