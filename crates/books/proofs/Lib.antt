@@ -12,3 +12,4 @@ pub mod Testing
 pub mod Surveying
 pub mod Standing
 pub mod Shelving
+pub mod Firsts

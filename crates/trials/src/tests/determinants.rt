@@ -59,14 +59,19 @@ fn printed(rt: HostRuntime) -> Result<(), Fail> {
     Ok(())
 }
 
-// Decimals, lowest and highest.
-const RANGES: [(Determinant, usize, i64, i64); 8] = [
+// Decimals, lowest and highest, of each determinant by its number.
+pub const RANGES: [(Determinant, usize, i64, i64); 13] = [
     (Determinant::Owner, 0, 0, 63),
     (Determinant::Vssvariol, 3, -2_000_000, 2_000_000),
     (Determinant::Urllag, 3, 0, 2_000_000),
     (Determinant::Urllead, 3, -2_000_000, 0),
     (Determinant::Rtvar, 3, -1_000_000, 1_000_000),
+    (Determinant::Hsl, 3, 0, 2_000_000),
+    (Determinant::Lsl, 3, 0, 2_000_000),
     (Determinant::Rtspp, 2, -1_000_000, 1_000_000),
+    (Determinant::Rthslaiec, 2, -1_000_000, 1_000_000),
+    (Determinant::Rtvssaiec, 2, -1_000_000, 1_000_000),
+    (Determinant::Rtmg, 3, -1_000_000, 1_000_000),
     (Determinant::Lrs, 6, 0, 1_000_000),
     (Determinant::Vssvarpr, 2, 0, 1_000_000),
 ];

@@ -1,4 +1,5 @@
 // What stops a run: a number that is missing or out of range, and shares that are not all of the load.
+use super::determinants::RANGES;
 use super::smallday::*;
 use intervals::fault::{Cause, Fault, Stop};
 use rounding::rules::HalfAway;
@@ -6,7 +7,7 @@ use runs::refusal::IntervalRefusal;
 use std::process::Abort;
 use std::test::Fail;
 use terms::determinant::Determinant;
-use terms::question::{LAST_DETERMINANT, Slot};
+use terms::question::Slot;
 
 // Four intervals are worked, the fifth is over a day that stops it, and the sheet is as after the fourth.
 fn check_stop(rt: &impl Abort, day: &Day, fault: Fault, warnings: usize) -> Result<(), Fail> {
@@ -81,14 +82,20 @@ fn missing_price(rt: HostRuntime) -> Result<(), Fail> {
     check_stop(&rt, &share, fault, 0)
 }
 
-fn check_range(rt: &impl Abort, d: Determinant, unit: u32) -> Result<(), Fail> {
+fn check_range(
+    rt: &impl Abort,
+    d: Determinant,
+    unit: u32,
+    low: i64,
+    high: i64,
+) -> Result<(), Fail> {
     let day = Day::small();
     let fault = Fault::new(Cause::OutOfRange, d, unit);
-    for number in [d.low().wrapping_sub(1), d.high().wrapping_add(1)] {
+    for number in [low.wrapping_sub(1), high.wrapping_add(1)] {
         check_stop(rt, &day.with(d, unit, number), fault, 0)?;
     }
     let inside = if d == Determinant::Lrs { 16 } else { 0 };
-    for number in [d.low(), d.high()] {
+    for number in [low, high] {
         assert_eq!(rt; answer_to(&day.with(d, unit, number))?, inside);
     }
     Ok(())
@@ -97,14 +104,13 @@ fn check_range(rt: &impl Abort, d: Determinant, unit: u32) -> Result<(), Fail> {
 // At the ends of each range; a share at the ends of its range leaves the sum wrong, and one past them is named itself.
 #[test]
 fn ranges(rt: HostRuntime) -> Result<(), Fail> {
-    for number in 1..=LAST_DETERMINANT {
-        let d = Determinant::try_from(number)?;
-        check_range(&rt, d, 0)?;
-        if d != Determinant::Vssvarpr {
-            check_range(&rt, d, 1)?;
+    for (d, _, low, high) in &RANGES {
+        check_range(&rt, *d, 0, *low, *high)?;
+        if *d != Determinant::Vssvarpr {
+            check_range(&rt, *d, 1, *low, *high)?;
         }
     }
-    check_range(&rt, Determinant::Lrs, 63)
+    check_range(&rt, Determinant::Lrs, 63, 0, 1_000_000)
 }
 
 // An owner is asked before an instruction, and a Resource without an owner is asked no more.
