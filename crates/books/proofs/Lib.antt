@@ -12,4 +12,3 @@ pub mod Testing
 pub mod Surveying
 pub mod Standing
 pub mod Shelving
-pub mod Firsts

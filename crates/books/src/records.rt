@@ -33,12 +33,10 @@ impl Store for Records {
 
     ghost pinned = { λ s. pinned_records s.records.items };
 
-    #[tactic(auto, using(crate::proofs::Firsts::first_few))]
     fn count(&self) -> usize {
         self.records.len().min(MOST_PLACES)
     }
 
-    #[tactic(auto, using(crate::proofs::Firsts::first_at, crate::proofs::Firsts::past_first))]
     fn place(&self, i: usize) -> Place {
         if i >= MOST_PLACES {
             return Place::blank(0);
@@ -65,8 +63,7 @@ impl Shelf<Records> {
 
     // Hands the records back: the held days, free places, and what stood behind them.
     pub fn close(self) -> Vec<Place>
-        ensures records { result.items ≡ self.store.records.items }
-        ensures laid { result.items ≡ laid (kept_of (take 32 self.store.records.items) self.used) ++ drop 32 self.store.records.items }
+        ensures { result.items ≡ laid (kept_of (take 32 self.store.records.items) self.used) ++ drop 32 self.store.records.items }
     {
         let Records { records } = self.into_store();
         records

@@ -2,7 +2,6 @@
 ghost use Rattle.std.specs.List.{AllByRecursion};
 ghost use Rattle.worked.specs.Worked.{table, Works};
 
-#[tactic(auto, using(crate::proofs::Computed::works))]
 pub fn table_holds()
     ensures { AllByRecursion Works table }
 {}
