@@ -1,3 +1,5 @@
 pub mod Walking
 pub mod Jobbing
 pub mod Listing
+pub mod Watching
+pub mod Restoring

@@ -1,14 +1,16 @@
 -- Jobs one after the other.
-use Rattle.std.proofs.Common.{◌≡◌, ℕ, suc, ◌+◌, List, ◌++◌, get_or, set, ℤ, refl, sym, ap, ◌∙◌, add-one}
-use Rattle.std.proofs.lemmas.List.{append_assoc}
-use Rattle.terms.specs.Told.{Told}
+use Rattle.std.proofs.Common.{◌≡◌, ℕ, suc, ◌+◌, ◌<◌, true, List, length, ◌++◌, get_or, set, ℤ, Ok, Err, Result, IfErr, refl, sym, ap, ◌∙◌, add-one, arith}
+use Rattle.std.proofs.lemmas.List.{append_assoc, get_or-set_same, get_or-set_other}
+use Rattle.terms.specs.Told.{Told, fine}
 use Rattle.terms.specs.Sources.{Table}
 use Rattle.amounts.specs.declared.row.Amounts.{Amounts}
 use Rattle.intervals.specs.declared.warning.Warning.{Warning}
 use Rattle.books.specs.Kept.{Kept}
 use Rattle.accounts.specs.Histories.{History, Accounts}
-use Rattle.jobs.specs.Jobs.{Done, job}
-use Rattle.jobs.specs.Lists.{End, State, begun, nothing_known, no_end, after_job, jobs}
+use Rattle.jobs.specs.Jobs.{Done, job, job_watched}
+use Rattle.jobs.specs.declared.refusal.JobRefusal.{JobRefusal}
+use Rattle.jobs.specs.Refusals.{told}
+use Rattle.jobs.specs.Lists.{End, State, begun, nothing_known, no_end, is_refused, AllRefused, after_job, jobs, jobs_watched}
 
 -- a book that kept k₀ and keeps k, the ends and the warnings are those of the state
 pub record Stands (s : State) (k₀ k : Kept) (es : List End) (ws : List Warning) : Type 0 where
@@ -16,6 +18,19 @@ pub record Stands (s : State) (k₀ k : Kept) (es : List End) (ws : List Warning
   pub ends : es ≡ s.ends
   pub warnings : ws ≡ s.warnings
   pub law : (h : History) → Accounts h k₀ → Accounts (s.calls ++ h) k
+
+-- a job more: a refused one leaves what was kept
+pub unchanged_by : {X : Type 0} → (r : Result ℕ JobRefusal) → IfErr r (λ e. X) → is_refused (told r) ≡ true → X
+unchanged_by (Ok x) h e = absurd (no e)
+  where
+    no : is_refused (fine x) ≡ true → ⊥
+    no h = cc
+unchanged_by (Err y) h e = h
+
+pub unchanged_more : (es : List End) (n : ℕ) (x : End) (k₀ k l : Kept) → n < length es → (AllRefused es n → k ≡ k₀) → (is_refused x.answer ≡ true → l ≡ k) → AllRefused (set es n x) (n + 1) → l ≡ k₀
+unchanged_more es n x k₀ k l lt before now all =
+    now (ap (λ z. is_refused z.answer) (sym (get_or-set_same es n x no_end lt)) ∙ all n (omega arith))
+    ∙ before (λ q few. ap (λ z. is_refused z.answer) (sym (get_or-set_other es n q x no_end (let less : q < n = few in omega arith))) ∙ all q (omega arith))
 
 module _ (rd : ℤ → ℕ → ℤ) (tables : List Table) (d : ℕ) where
   pub stands_none : (k : Kept) (es : List End) (ws : List Warning) → Stands (jobs rd tables d (begun k es ws) 0) k k es ws
@@ -46,3 +61,22 @@ module _ (rd : ℤ → ℕ → ℤ) (tables : List Table) (d : ℕ) where
           warnings = u-is;
           law = λ h accounts. rw append_assoc (law ((jobs rd tables d s n).calls ++ h) (so.law h accounts));
         }))
+
+  module _ {S : Type 0} (tell : S → ℕ → List Warning → S) where
+    pub watch_none : (b : State) (s : S) → s ≡ jobs_watched tell rd tables d b s 0
+    unfolding jobs_watched
+    watch_none b s = refl
+
+    watch_next : (b : State) (n : ℕ) (s : S) → jobs_watched tell rd tables d b s (suc n) ≡ job_watched tell (get_or tables n nothing_known) d (jobs rd tables d b n).warnings (jobs rd tables d b n).kept (jobs_watched tell rd tables d b s n)
+    unfolding jobs_watched
+    watch_next b n s = refl
+
+    -- what the watch makes of one job more
+    pub watch_more : (b : State) (n : ℕ) (k₀ k : Kept) (es : List End) (ws : List Warning) → Stands (jobs rd tables d b n) k₀ k es ws → (t : Table) → t ≡ get_or tables n nothing_known → (s z v : S) → z ≡ jobs_watched tell rd tables d b s n → v ≡ job_watched tell t d ws k z → v ≡ jobs_watched tell rd tables d b s (n + 1)
+    watch_more b n k₀ k es ws so t t-is s z v before now =
+        rw add-one (now
+        ∙ ap (λ x. job_watched tell x d ws k z) t-is
+        ∙ ap (λ x. job_watched tell (get_or tables n nothing_known) d x k z) so.warnings
+        ∙ ap (λ x. job_watched tell (get_or tables n nothing_known) d (jobs rd tables d b n).warnings x z) so.kept
+        ∙ ap (λ x. job_watched tell (get_or tables n nothing_known) d (jobs rd tables d b n).warnings (jobs rd tables d b n).kept x) before
+        ∙ sym (watch_next b n s))

@@ -92,7 +92,7 @@ module _ (t : Table) (rd : ℤ → ℕ → ℤ) (y n : ℕ) (ws vs us : List War
   due : is_due w (n + 1) ≡ true
   due = due_is w n (by.intervals ∙ length_repeated n t) lt
 
-  next_warned : us ≡ warned t b w (n + 1) vs → us ≡ noted t y (n + 1) vs
+  pub next_warned : us ≡ warned t b w (n + 1) vs → us ≡ noted t y (n + 1) vs
   next_warned h = h ∙ ap (λ z. warned t z w (n + 1) vs) going ∙ warned_is t w (n + 1) vs due ∙ ap (λ z. noted t z (n + 1) vs) by.day
 
   next_walked : (a : Told (Unit {0})) → turn t w.day (n + 1) (length vs) ≡ a → us ≡ warned t b w (n + 1) vs → walked t y ws (n + 1) ≡ record { told = a; warnings = us }
@@ -108,7 +108,10 @@ module _ (t : Table) (rd : ℤ → ℕ → ℤ) (y n : ℕ) (ws vs us : List War
       ap (λ z. stopping t z w (n + 1) (length vs)) going
       ∙ stays_going t w (n + 1) (length vs) (turn_ok rd t w (n + 1) (length vs) due x (said ∙ ap (λ z. answering rd t z w (n + 1) (length vs)) going))
 
+  pub halted : (e : IntervalRefusal) → numbered e ≡ answering rd t b w (n + 1) (length vs) → us ≡ warned t b w (n + 1) vs → walked t y ws (n + 1) ≡ record { told = numbered e; warnings = us }
+  halted e said h = next_walked (numbered e) (turn_err rd t w (n + 1) (length vs) due e (said ∙ ap (λ z. answering rd t z w (n + 1) (length vs)) going)) h
+
   pub refused : (e : IntervalRefusal) → numbered e ≡ answering rd t b w (n + 1) (length vs) → us ≡ warned t b w (n + 1) vs → walked t y ws 96 ≡ record { told = numbered e; warnings = us }
   refused e said h =
-      let g = next_walked (numbered e) (turn_err rd t w (n + 1) (length vs) due e (said ∙ ap (λ z. answering rd t z w (n + 1) (length vs)) going)) h in
+      let g = halted e said h in
       walk_stays t y ws (n + 1) (96 - (n + 1)) 96 e (omega arith) (ap (λ z. z.told) g) ∙ g

@@ -43,6 +43,16 @@ unfoldable pub walked : Table → ℕ → List Warning → ℕ → Walk
 walked t y ws zero = record { told = fine tt; warnings = ws }
 walked t y ws (suc n) = step t y (suc n) (walked t y ws n)
 
+-- a watch that is told by `tell` hears of an interval that was worked, with its warnings, and not of one that was refused
+abbrev pub heard : {S : Type 0} → (S → ℕ → List Warning → S) → ℕ → List Warning → S → Told (Unit {0}) → S
+heard tell i rows s (fine x) = tell s i rows
+heard tell i rows s (refuse n vs) = s
+
+-- what a watch makes of the first n intervals: it is told of each that was worked, in their order, once, with just that interval's warnings
+unfoldable pub watched : {S : Type 0} → (S → ℕ → List Warning → S) → Table → ℕ → List Warning → S → ℕ → S
+watched tell t y ws s zero = s
+watched tell t y ws s (suc n) = heard tell (suc n) (course t y (suc n)).rows (watched tell t y ws s n) (walked t y ws (suc n)).told
+
 -- one table for each of n intervals
 unfoldable pub repeated : ℕ → Table → List Table
 repeated zero t = []

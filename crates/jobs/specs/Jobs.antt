@@ -13,7 +13,7 @@ use Rattle.accounts.specs.Refusals.{told as post_told}
 use Rattle.accounts.specs.Slips.{given}
 use Rattle.accounts.specs.Postings.{Said, posting}
 use Rattle.accounts.specs.Histories.{History, reserves, withdraws, posts}
-use Rattle.jobs.specs.Days.{walked, run_over}
+use Rattle.jobs.specs.Days.{walked, watched, run_over}
 
 -- the first n entities' amounts by the formulas
 unfoldable pub rows_of : ℕ → Trace → List Amounts
@@ -60,3 +60,11 @@ module _ (rounded : ℤ → ℕ → ℤ) (t : Table) (d : ℕ) (bills : List Amo
   -- A JOB on a book that keeps k
   unfoldable pub job : Kept → Done
   job k = job_by k (given d (reserving k d).answer)
+
+abbrev job_watched_by : {S : Type 0} → (S → ℕ → List Warning → S) → Table → ℕ → List Warning → S → Told ℕ → S
+job_watched_by tell t d ws s (fine x) = watched tell t d ws s last_interval
+job_watched_by tell t d ws s (refuse n vs) = s
+
+-- what a watch makes of a job on a book that keeps k: it is told of the day's intervals where the day was reserved, and else of none
+unfoldable pub job_watched : {S : Type 0} → (S → ℕ → List Warning → S) → Table → ℕ → List Warning → Kept → S → S
+job_watched tell t d ws k s = job_watched_by tell t d ws s (given d (reserving k d).answer)

@@ -1,7 +1,7 @@
 -- A list of jobs for one day, one after the other. Assumes nothing.
-use Rattle.std.specs.Prelude.{ℕ, zero, suc, List, [], ◌++◌, ℤ, slice_index_or, slice_set}
+use Rattle.std.specs.Prelude.{◌≡◌, ℕ, zero, suc, ◌<◌, Bool, true, false, List, [], ◌++◌, ℤ, slice_index_or, slice_set}
 use Rattle.terms.specs.declared.answer.Answer.TheVariants.{NoCut}
-use Rattle.terms.specs.Told.{Told, fine}
+use Rattle.terms.specs.Told.{Told, fine, refuse}
 use Rattle.terms.specs.Sources.{Table}
 use Rattle.amounts.specs.declared.row.Amounts.{Amounts}
 use Rattle.intervals.specs.declared.warning.Warning.{Warning}
@@ -9,7 +9,7 @@ use Rattle.books.specs.Kept.{Kept}
 use Rattle.accounts.specs.Histories.{History}
 use Rattle.jobs.specs.declared.ending.JobEnd.{JobEnd}
 use Rattle.jobs.specs.Refusals.{told}
-use Rattle.jobs.specs.Jobs.{Done, job}
+use Rattle.jobs.specs.Jobs.{Done, job, job_watched}
 
 -- how a job ended, and its bill rows
 pub record End : Type 0 where
@@ -36,6 +36,14 @@ nothing_known d u y i = NoCut
 abbrev pub no_end : End
 no_end = record { answer = fine 0; bills = [] }
 
+abbrev pub is_refused : Told ℕ → Bool
+is_refused (fine x) = false
+is_refused (refuse n vs) = true
+
+-- the first n jobs were all refused
+abbrev pub AllRefused : List End → ℕ → Type 0
+AllRefused ends n = (q : ℕ) → q < n → is_refused (slice_index_or ends q no_end).answer ≡ true
+
 abbrev pub after_job : State → ℕ → Done → State
 after_job s n x = record { kept = x.kept; ends = slice_set s.ends n (record { answer = x.answer; bills = x.bills }); warnings = x.warnings; calls = x.calls ++ s.calls }
 
@@ -44,3 +52,8 @@ module _ (rounded : ℤ → ℕ → ℤ) (tables : List Table) (d : ℕ) (s : St
   unfoldable pub jobs : ℕ → State
   jobs zero = s
   jobs (suc n) = after_job (jobs n) n (job rounded (slice_index_or tables n nothing_known) d (slice_index_or (jobs n).ends n no_end).bills (jobs n).warnings (jobs n).kept)
+
+-- what a watch makes of the first n jobs, one after the other
+unfoldable pub jobs_watched : {S : Type 0} → (S → ℕ → List Warning → S) → (ℤ → ℕ → ℤ) → List Table → ℕ → State → S → ℕ → S
+jobs_watched tell rounded tables d b s zero = s
+jobs_watched tell rounded tables d b s (suc n) = job_watched tell (slice_index_or tables n nothing_known) d (jobs rounded tables d b n).warnings (jobs rounded tables d b n).kept (jobs_watched tell rounded tables d b s n)

@@ -2,7 +2,7 @@
 ghost use Rattle.std.specs.Prelude.{◌≡◌, ◌≤◌, false, IfOk, [], length};
 ghost use Rattle.terms.specs.Limits.{last_day};
 ghost use Rattle.runs.specs.Works.{WorkedBy, traced};
-ghost use Rattle.jobs.specs.Days.{walked, run_over, day_told, sheet_told};
+ghost use Rattle.jobs.specs.Days.{walked, watched, run_over, day_told, sheet_told};
 
 use crate::watch::Watch;
 use intervals::warning::Warning;
@@ -25,6 +25,7 @@ fn work_intervals<R: Rounding, S: Source, W: Watch>(
     requires law { WorkedBy (traced run.old.work.day (R.Rounding.rounded run.old.rule) []) run.old.work }
     ensures told { day_told result ≡ (walked (S.Source.table source.now) run.old.work.day warnings.old 96).told }
     ensures warnings { warnings.new ≡ (walked (S.Source.table source.now) run.old.work.day warnings.old 96).warnings }
+    ensures watch { W.Watch.state watch.new ≡ watched W.Watch.told (S.Source.table source.now) run.old.work.day warnings.old (W.Watch.state watch.old) 96 }
     ensures law { IfOk result (λ _. WorkedBy (run_over run.old.work.day (R.Rounding.rounded run.old.rule) 96 (S.Source.table source.now)) run.new.work) }
 {
     for worked in 0..LAST_INTERVAL {
@@ -47,6 +48,7 @@ pub(crate) fn run_day<R: Rounding + Drop, S: Source, W: Watch>(
     requires { day ≤ last_day }
     ensures told { sheet_told result ≡ (walked (S.Source.table source.now) day warnings.old 96).told }
     ensures warnings { warnings.new ≡ (walked (S.Source.table source.now) day warnings.old 96).warnings }
+    ensures watch { W.Watch.state watch.new ≡ watched W.Watch.told (S.Source.table source.now) day warnings.old (W.Watch.state watch.old) 96 }
     ensures long { IfOk result (λ s. length s.work.totals ≡ 64) }
     ensures law { IfOk result (λ s. WorkedBy (run_over day (R.Rounding.rounded rule) 96 (S.Source.table source.now)) s.work) }
 {

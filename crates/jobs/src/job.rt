@@ -1,10 +1,10 @@
 // A job: a day is reserved in a book, worked over a source, and posted.
-ghost use Rattle.std.specs.Prelude.{◌≡◌, false, ◌∷◌, ◌++◌};
+ghost use Rattle.std.specs.Prelude.{◌≡◌, false, ◌∷◌, ◌++◌, IfErr};
 ghost use Rattle.books.specs.Calls.{lifting};
 ghost use Rattle.books.specs.Refusals.{told as book_told};
 ghost use Rattle.accounts.specs.Histories.{History, Accounts, withdraws};
 ghost use Rattle.jobs.specs.Refusals.{told};
-ghost use Rattle.jobs.specs.Jobs.{job};
+ghost use Rattle.jobs.specs.Jobs.{job, job_watched};
 
 use crate::days::run_day;
 use crate::refusal::JobRefusal;
@@ -46,6 +46,8 @@ pub fn work_job<B: Book, R: Rounding + Drop, S: Source, W: Watch>(
     ensures beside { B.Book.beside book.new ≡ B.Book.beside book.old }
     ensures bills { bills.new ≡ (job (R.Rounding.rounded rule) (S.Source.table source.now) day bills.old warnings.old (B.Book.kept book.old)).bills }
     ensures warnings { warnings.new ≡ (job (R.Rounding.rounded rule) (S.Source.table source.now) day bills.old warnings.old (B.Book.kept book.old)).warnings }
+    ensures watch { W.Watch.state watch.new ≡ job_watched W.Watch.told (S.Source.table source.now) day warnings.old (B.Book.kept book.old) (W.Watch.state watch.old) }
+    ensures unchanged { IfErr result (λ e. B.Book.kept book.new ≡ B.Book.kept book.old) }
     ensures law { (h : History) → Accounts h (B.Book.kept book.old) → Accounts ((job (R.Rounding.rounded rule) (S.Source.table source.now) day bills.old warnings.old (B.Book.kept book.old)).calls ++ h) (B.Book.kept book.new) }
 {
     let slip = match reserve(book, day) {

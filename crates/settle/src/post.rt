@@ -62,6 +62,12 @@ impl<R: Files + Clock + Print + Eprint + AllocGlobal> Teller<'_, R> {
 }
 
 impl<R: Files + Clock + Print + Eprint + AllocGlobal> Watch for Teller<'_, R> {
+    ghost State = { Unit {0} };
+
+    ghost state = { λ w. tt };
+
+    ghost told = { λ s i rows. s };
+
     fn worked(&mut self, interval: u32, rows: &[Warning], count: usize) {
         if self.fault.is_none() {
             self.fault = self.tell(interval, rows, count).err();

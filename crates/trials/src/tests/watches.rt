@@ -1,4 +1,6 @@
 // A watch that writes down what it is told.
+ghost use Rattle.std.specs.Prelude.{ℕ, ◌+◌, ◌%◌, ◌^◌};
+
 use intervals::warning::Warning;
 use jobs::watch::Watch;
 use std::process::Abort;
@@ -12,16 +14,30 @@ pub struct Counter {
     pub hours: u32,
 }
 
+// The sum of the hours of the first rows.
+fn hours_of(rows: &[Warning], count: usize) -> u32 {
+    let mut hours = 0_u32;
+    for row in rows.iter().take(count) {
+        hours = hours.wrapping_add(row.hour);
+    }
+    hours
+}
+
 impl Watch for Counter {
+    // How often it was told.
+    ghost State = { ℕ };
+
+    ghost state = { λ w. w.count };
+
+    ghost told = { λ s i rows. (s + 1) % 2 ^ 64 };
+
     fn worked(&mut self, interval: u32, rows: &[Warning], count: usize) {
         if let Some(row) = self.told.get_mut(self.count) {
             *row = interval;
         }
         self.count = self.count.wrapping_add(1);
         self.warnings = self.warnings.wrapping_add(count);
-        for row in rows.iter().take(count) {
-            self.hours = self.hours.wrapping_add(row.hour);
-        }
+        self.hours = self.hours.wrapping_add(hours_of(rows, count));
     }
 }
 
