@@ -14,6 +14,15 @@ pub struct Counter {
     pub hours: u32,
 }
 
+// The sum of the hours of the first rows.
+fn hours_of(rows: &[Warning], count: usize) -> u32 {
+    let mut hours = 0_u32;
+    for row in rows.iter().take(count) {
+        hours = hours.wrapping_add(row.hour);
+    }
+    hours
+}
+
 impl Watch for Counter {
     // How often it was told.
     ghost State = { ℕ };
@@ -28,9 +37,7 @@ impl Watch for Counter {
         }
         self.count = self.count.wrapping_add(1);
         self.warnings = self.warnings.wrapping_add(count);
-        for row in rows.iter().take(count) {
-            self.hours = self.hours.wrapping_add(row.hour);
-        }
+        self.hours = self.hours.wrapping_add(hours_of(rows, count));
     }
 }
 
