@@ -34,7 +34,7 @@ const STREAMS: i32 = 3;
 fn main(rt: HostRuntime) -> ExitCode {
     let unheard = Cell::new(false);
     match run(&rt, &unheard) {
-        Ok(true) if !unheard.get() => ExitCode::SUCCESS,
+        Ok(sound) if sound && !unheard.get() => ExitCode::SUCCESS,
         Ok(_) => ExitCode::FAILURE,
         Err(e) => {
             let _ = eprintln!(rt; "settle: {e}");

@@ -260,11 +260,12 @@ impl<R: Files<File = File> + Clock + Print + Eprint + AllocGlobal> Console<'_, R
             return Err(fault.into());
         }
         let [end] = ends;
+        let rows_billed = end.bills;
         match end.answer {
             Ok(charged) => Ok(Some(Bills {
                 before,
                 charged,
-                rows: end.bills,
+                rows: rows_billed,
             })),
             Err(refusal) => {
                 self.say_unposted(posting, sources.as_slice(), rows.as_slice(), refusal)?;
