@@ -39,6 +39,7 @@ const EXAMPLE: &str = "settle post book.bin 7 day.txt --rule even";
 struct Posting<'a> {
     book: &'a str,
     day: u16,
+    file: &'a str,
     options: Options,
 }
 
@@ -94,7 +95,7 @@ impl<R: Files<File = File> + Clock + Print + Eprint + AllocGlobal> Console<'_, R
         &self,
         book: &str,
         day: &str,
-        path: &str,
+        file: &str,
         words: &[&str],
     ) -> anyhow::Result<bool> {
         let (number, options) = match day_and_options(day, words, EXAMPLE) {
@@ -102,12 +103,18 @@ impl<R: Files<File = File> + Clock + Print + Eprint + AllocGlobal> Console<'_, R
             Err(fault) => return self.refuse(fault),
         };
         match u16::try_from(number) {
-            Ok(day) => self.post_file(Posting { book, day, options }, path),
+            Ok(day) => self.post_file(Posting {
+                book,
+                day,
+                file,
+                options,
+            }),
             Err(_) => self.say_day_refused(day, BookRefusal::OutOfRange.number()),
         }
     }
 
-    fn post_file(&self, posting: Posting<'_>, path: &str) -> anyhow::Result<bool> {
+    fn post_file(&self, posting: Posting<'_>) -> anyhow::Result<bool> {
+        let path = posting.file;
         let Some(bytes) = self.load(path)? else {
             return Ok(false);
         };
@@ -146,7 +153,7 @@ impl<R: Files<File = File> + Clock + Print + Eprint + AllocGlobal> Console<'_, R
     // No other call posts to the book from before it is read to the end of the command.
     fn post_held<S: Source + Drop>(&self, posting: Posting<'_>, source: S) -> anyhow::Result<bool> {
         let path = Printable(posting.book);
-        let book = match HeldBook::hold(self.rt, posting.book) {
+        let book = match HeldBook::hold(self.rt, posting.book, posting.file) {
             Ok(book) => book,
             Err(fault) => return self.refuse(format_args!("{path}: {fault}")),
         };
