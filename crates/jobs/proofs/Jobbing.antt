@@ -85,10 +85,9 @@ module _ (rd : ℤ → ℕ → ℤ) (t : Table) (d : ℕ) (bills : List Amounts)
     unfolding job
     job_posted e o = rw (← e, ← o) refl
 
-    pub posted : fine d ≡ given d (reserving k d).answer → fine tt ≡ (walked t d ws 96).told → us ≡ (walked t d ws 96).warnings → length w.totals ≡ 64 → WorkedBy (run_over d rd 96 t) w → a ≡ post_told (posting m d (said w) bills).answer → l ≡ (posting m d (said w) bills).after → bs ≡ (posting m d (said w) bills).bills → ((h : History) → Accounts h k → Accounts (reserves d (fine d) ∷ h) m) → ((h : History) (z : Trace) → Accounts h m → WorkedBy z w → Accounts (posts d z (take 64 bs) a ∷ h) l) → Comes (job rd t d bills ws k) k a l bs us
-    posted e o u long by a-is l-is b-is law post =
+    pub posted : fine d ≡ given d (reserving k d).answer → fine tt ≡ (walked t d ws 96).told → us ≡ (walked t d ws 96).warnings → said w ≡ said_of (run_over d rd 96 t) → WorkedBy (run_over d rd 96 t) w → a ≡ post_told (posting m d (said w) bills).answer → l ≡ (posting m d (said w) bills).after → bs ≡ (posting m d (said w) bills).bills → ((h : History) → Accounts h k → Accounts (reserves d (fine d) ∷ h) m) → ((h : History) (z : Trace) → Accounts h m → WorkedBy z w → Accounts (posts d z (take 64 bs) a ∷ h) l) → Comes (job rd t d bills ws k) k a l bs us
+    posted e o u s by a-is l-is b-is law post =
         let j = job_posted e o in
-        let s = said_is (run_over d rd 96 t) w by long in
         let p = ap (λ z. posting z d (said w) bills) after ∙ ap (λ z. posting (reserving k d).after d z bills) s in
         rw j (record {
           answer = a-is ∙ ap (λ z. post_told z.answer) p;

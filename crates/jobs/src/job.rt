@@ -16,8 +16,16 @@ use amounts::row::Amounts;
 use books::book::Book;
 use intervals::warning::Warning;
 use rounding::rule::Rounding;
+use runs::day::RunDay;
 use runs::refusal::IntervalRefusal;
 use terms::source::Source;
+
+// The day of a slip, as that of a run.
+fn run_day_of(slip: &Slip) -> RunDay
+    ensures { result.day ≡ slip.now.day }
+{
+    RunDay::try_from(slip.day()).unwrap()
+}
 
 // Withdraws the slip of a job whose day is not worked, and says why it is not.
 fn give_up<B: Book>(book: &mut B, slip: Slip, refusal: IntervalRefusal) -> JobRefusal
@@ -54,8 +62,9 @@ pub fn work_job<B: Book, R: Rounding + Drop, S: Source, W: Watch>(
         Ok(slip) => slip,
         Err(refusal) => return Err(JobRefusal::Reservation(refusal)),
     };
-    match run_day(slip.day(), rule, source, warnings, watch) {
-        Ok(sheet) => match post(book, slip, &sheet, bills) {
+    let run = run_day(run_day_of(&slip), rule, source, warnings, watch);
+    match run.ended {
+        Ok(()) => match post(book, slip, &run.sheet, bills) {
             Ok(charged) => Ok(charged),
             Err(refusal) => Err(JobRefusal::Posting(refusal)),
         },
