@@ -1,8 +1,11 @@
 // A job: a day is reserved in a book, worked over a source, and posted.
-ghost use Rattle.std.specs.Prelude.{◌≡◌, false, ◌∷◌, ◌++◌, IfErr};
+ghost use Rattle.std.specs.Prelude.{◌≡◌, false, ◌∷◌, ◌++◌, IfOk, IfErr};
+ghost use Rattle.terms.specs.Limits.{last_interval};
 ghost use Rattle.books.specs.Calls.{lifting};
 ghost use Rattle.books.specs.Refusals.{told as book_told};
-ghost use Rattle.accounts.specs.Histories.{History, Accounts, withdraws};
+ghost use Rattle.accounts.specs.Histories.{History, Accounts, withdraws, last};
+ghost use Rattle.accounts.specs.Bills.{BilledBetween};
+ghost use Rattle.jobs.specs.Days.{run_over};
 ghost use Rattle.jobs.specs.Refusals.{told};
 ghost use Rattle.jobs.specs.Jobs.{job, job_watched};
 
@@ -57,6 +60,7 @@ pub fn work_job<B: Book, R: Rounding + Drop, S: Source, W: Watch>(
     ensures watch { W.Watch.state watch.new ≡ job_watched W.Watch.told (S.Source.table source.now) day warnings.old (B.Book.kept book.old) (W.Watch.state watch.old) }
     ensures unchanged { IfErr result (λ e. B.Book.kept book.new ≡ B.Book.kept book.old) }
     ensures law { (h : History) → Accounts h (B.Book.kept book.old) → Accounts ((job (R.Rounding.rounded rule) (S.Source.table source.now) day bills.old warnings.old (B.Book.kept book.old)).calls ++ h) (B.Book.kept book.new) }
+    ensures difference { (h : History) → Accounts h (B.Book.kept book.old) → IfOk result (λ _. BilledBetween (last h day) (run_over day (R.Rounding.rounded rule) last_interval (S.Source.table source.now)) bills.new) }
 {
     let slip = match reserve(book, day) {
         Ok(slip) => slip,
