@@ -1,0 +1,6 @@
+pub mod Tables
+pub mod TablesKept
+pub mod Refusals
+pub mod Postings
+pub mod Workings
+pub mod Lists
