@@ -1,14 +1,15 @@
 // Posting a file's day to the bytes of a book.
-ghost use Rattle.std.specs.Prelude.{◌≡◌, ℕ, ◌≤◌, ◌++◌, IfOk, IfErr};
+ghost use Rattle.std.specs.Prelude.{◌≡◌, ℕ, ◌<◌, ◌≤◌, ◌++◌, IfOk, IfErr};
 ghost use Rattle.terms.specs.Limits.{last_day};
+ghost use Rattle.amounts.specs.Traces.{entities};
+ghost use Rattle.books.specs.Calls.{account};
 ghost use Rattle.books.specs.Kept.{entry};
 ghost use Rattle.imagebook.specs.Images.{opened};
 ghost use Rattle.accounts.specs.Histories.{History, Accounts, last};
 ghost use Rattle.accounts.specs.Bills.{BilledBetween};
 ghost use Rattle.jobs.specs.Jobs.{job_watched};
-ghost use Rattle.jobs.specs.Refusals.{told as job_told};
 ghost use Rattle.settlement.specs.Tables.{table_of};
-ghost use Rattle.settlement.specs.Refusals.{posting_told};
+ghost use Rattle.settlement.specs.Refusals.{answered, posting_told};
 ghost use Rattle.settlement.specs.Postings.{job_of, run_of, before_of, bills_of, posted, posted_watched};
 ghost use Rattle.settlement.specs.Lists.{most_places, new_image};
 
@@ -16,12 +17,11 @@ use crate::bills::{Before, Bills};
 use crate::reading::Reading;
 use crate::refusal::Unposted;
 use amounts::row::Amounts;
+use books::account::Account;
 use books::book::Book;
-use imagebook::fault::ImageFault;
 use imagebook::opening::{Opened, close};
 use intervals::warning::Warning;
 use jobs::job::work_job;
-use jobs::refusal::JobRefusal;
 use jobs::watch::Watch;
 use rounding::rules::HalfAway;
 use terms::question::ENTITIES;
@@ -34,23 +34,25 @@ pub struct Posted {
     pub answer: Result<Bills, Unposted>,
 }
 
+// What a book tells of a day and an entity.
+#[tactic(auto, unfolding(books::specs::Calls::reading))]
+fn account_of<B: Book>(book: &B, day: u32, entity: u32) -> Account
+    requires { entity < entities }
+    ensures { day ≤ last_day → result ≡ account (entry (B.Book.kept book.now) day) entity }
+{
+    book.read(day, entity).unwrap_or_default()
+}
+
 // What a book has of a day.
 fn before<B: Book>(book: &B, day: u32) -> Before
     ensures { day ≤ last_day → result ≡ before_of (entry (B.Book.kept book.now) day) }
 {
-    let mut before = Before {
-        billed: false,
-        amounts: [Amounts::default(); ENTITIES],
-    };
-    for (entity, amounts) in before.amounts.iter_mut().enumerate() {
-        if let Ok(account) = book.read(day, entity as u32) {
-            *amounts = account.amounts;
-        }
+    let mut amounts = [Amounts::default(); ENTITIES];
+    for (entity, row) in amounts.iter_mut().enumerate() {
+        *row = account_of(book, day, entity as u32).amounts;
     }
-    if let Ok(account) = book.read(day, 0) {
-        before.billed = account.billed;
-    }
-    before
+    let billed = account_of(book, day, 0).billed;
+    Before { billed, amounts }
 }
 
 // Works the file's day and posts it to a book.
@@ -59,8 +61,8 @@ fn post_to<B: Book, S: Source, W: Watch>(
     reading: &Reading<'_, S>,
     warnings: &mut [Warning],
     watch: &mut W,
-) -> Result<Bills, JobRefusal>
-    ensures answer { job_told result ≡ bills_of reading.now.file warnings.old (B.Book.kept book.old) }
+) -> Result<Bills, Unposted>
+    ensures answer { posting_told result ≡ answered (bills_of reading.now.file warnings.old (B.Book.kept book.old)) }
     ensures kept { B.Book.kept book.new ≡ (job_of reading.now.file warnings.old (B.Book.kept book.old)).kept }
     ensures beside { B.Book.beside book.new ≡ B.Book.beside book.old }
     ensures warnings { warnings.new ≡ (job_of reading.now.file warnings.old (B.Book.kept book.old)).warnings }
@@ -78,25 +80,7 @@ fn post_to<B: Book, S: Source, W: Watch>(
             before,
             rows,
         }),
-        Err(refusal) => Err(refusal),
-    }
-}
-
-// Posts to the book of an image, where it is one.
-fn post_unless<B: Book, S: Source, W: Watch>(
-    fault: Option<ImageFault>,
-    book: &mut B,
-    reading: &Reading<'_, S>,
-    warnings: &mut [Warning],
-    watch: &mut W,
-) -> Result<Bills, Unposted>
-{
-    match fault {
-        Some(fault) => Err(Unposted::Image(fault)),
-        None => match post_to(book, reading, warnings, watch) {
-            Ok(bills) => Ok(bills),
-            Err(refusal) => Err(Unposted::Job(refusal)),
-        },
+        Err(refusal) => Err(Unposted::Job(refusal)),
     }
 }
 
@@ -125,7 +109,13 @@ pub fn post_file<S: Source, W: Watch>(
         };
     }
     let Opened { mut book, fault } = Opened::new(book);
-    let answer = post_unless(fault, &mut book, reading, warnings, watch);
+    if let Some(fault) = fault {
+        return Posted {
+            book: close(book),
+            answer: Err(Unposted::Image(fault)),
+        };
+    }
+    let answer = post_to(&mut book, reading, warnings, watch);
     Posted {
         book: close(book),
         answer,
