@@ -1,0 +1,6 @@
+pub mod DayAsked
+pub mod DayWalked
+pub mod DayRuns
+pub mod DayPosted
+pub mod DayJobs
+pub mod DayTables

@@ -1,3 +1,4 @@
+pub mod SameDays
 pub mod Tables
 pub mod TablesKept
 pub mod Refusals

@@ -3,6 +3,7 @@
 
 pub mod bills;
 pub mod dayfile;
+pub mod laws;
 pub mod lists;
 pub mod posting;
 pub mod reading;
