@@ -4,3 +4,4 @@ pub mod DayRuns
 pub mod DayPosted
 pub mod DayJobs
 pub mod DayTables
+pub mod Billed

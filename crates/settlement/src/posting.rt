@@ -10,7 +10,7 @@ ghost use Rattle.accounts.specs.Bills.{BilledBetween};
 ghost use Rattle.jobs.specs.Jobs.{job_watched};
 ghost use Rattle.settlement.specs.Tables.{table_of};
 ghost use Rattle.settlement.specs.Refusals.{answered, posting_told};
-ghost use Rattle.settlement.specs.Postings.{job_of, run_of, before_of, bills_of, posted, posted_watched};
+ghost use Rattle.settlement.specs.Postings.{no_bills, job_of, run_of, before_of, bills_of, posted_sound, sound_watched, posted, posted_watched};
 ghost use Rattle.settlement.specs.Lists.{most_places, new_image};
 
 use crate::bills::{Before, Bills};
@@ -34,6 +34,13 @@ pub struct Posted {
     pub answer: Result<Bills, Unposted>,
 }
 
+// No amounts for any entity.
+fn no_amounts() -> [Amounts; ENTITIES]
+    ensures { result ≡ no_bills }
+{
+    [Amounts::default(); ENTITIES]
+}
+
 // What a book tells of a day and an entity.
 #[tactic(auto, unfolding(books::specs::Calls::reading))]
 fn account_of<B: Book>(book: &B, day: u32, entity: u32) -> Account
@@ -47,7 +54,7 @@ fn account_of<B: Book>(book: &B, day: u32, entity: u32) -> Account
 fn before<B: Book>(book: &B, day: u32) -> Before
     ensures { day ≤ last_day → result ≡ before_of (entry (B.Book.kept book.now) day) }
 {
-    let mut amounts = [Amounts::default(); ENTITIES];
+    let mut amounts = no_amounts();
     for (entity, row) in amounts.iter_mut().enumerate() {
         *row = account_of(book, day, entity as u32).amounts;
     }
@@ -73,7 +80,7 @@ fn post_to<B: Book, S: Source, W: Watch>(
 {
     let day = reading.day();
     let before = before(book, day);
-    let mut rows = [Amounts::default(); ENTITIES];
+    let mut rows = no_amounts();
     match work_job(book, day, HalfAway, reading, warnings, &mut rows, watch) {
         Ok(charged) => Ok(Bills {
             charged,
@@ -81,6 +88,37 @@ fn post_to<B: Book, S: Source, W: Watch>(
             rows,
         }),
         Err(refusal) => Err(Unposted::Job(refusal)),
+    }
+}
+
+// Posts the file's day to the book that the bytes are, where they are one. The file is sound.
+fn post_sound<S: Source, W: Watch>(
+    book: Vec<u8>,
+    reading: &Reading<'_, S>,
+    warnings: &mut [Warning],
+    watch: &mut W,
+) -> Posted
+    ensures book { result.book.items ≡ (posted_sound reading.now.file warnings.old book.items).book }
+    ensures answer { posting_told result.answer ≡ (posted_sound reading.now.file warnings.old book.items).answer }
+    ensures warnings { warnings.new ≡ (posted_sound reading.now.file warnings.old book.items).warnings }
+    ensures watch { W.Watch.state watch.new ≡ sound_watched reading.now.file warnings.old book.items W.Watch.told (W.Watch.state watch.old) }
+    ensures unchanged { IfErr result.answer (λ e. result.book.items ≡ book.items) }
+    ensures law { (h : History) → Accounts h (opened book.items) → Accounts ((posted_sound reading.now.file warnings.old book.items).calls ++ h) (opened result.book.items) }
+    ensures difference { (h : History) → Accounts h (opened book.items) → IfOk result.answer (λ b. BilledBetween (last h reading.now.file.day) (run_of reading.now.file) b.rows) }
+{
+    let Opened { mut book, fault } = Opened::new(book);
+    match fault {
+        Some(fault) => Posted {
+            book: close(book),
+            answer: Err(Unposted::Image(fault)),
+        },
+        None => {
+            let answer = post_to(&mut book, reading, warnings, watch);
+            Posted {
+                book: close(book),
+                answer,
+            }
+        }
     }
 }
 
@@ -102,22 +140,11 @@ pub fn post_file<S: Source, W: Watch>(
     ensures new_book { (places : ℕ) → places ≤ most_places → book.items ≡ new_image places → Accounts (posted reading.now.file warnings.old book.items).calls (opened result.book.items) }
     ensures difference { (h : History) → Accounts h (opened book.items) → IfOk result.answer (λ b. BilledBetween (last h reading.now.file.day) (run_of reading.now.file) b.rows) }
 {
-    if let Err(refusal) = reading.verdict() {
-        return Posted {
+    match reading.verdict() {
+        Ok(_) => post_sound(book, reading, warnings, watch),
+        Err(refusal) => Posted {
             book,
             answer: Err(Unposted::File(refusal)),
-        };
-    }
-    let Opened { mut book, fault } = Opened::new(book);
-    if let Some(fault) = fault {
-        return Posted {
-            book: close(book),
-            answer: Err(Unposted::Image(fault)),
-        };
-    }
-    let answer = post_to(&mut book, reading, warnings, watch);
-    Posted {
-        book: close(book),
-        answer,
+        },
     }
 }

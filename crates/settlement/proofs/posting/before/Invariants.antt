@@ -7,6 +7,6 @@ use Rattle.settlement.proofs.posting.before.Given as goal
 
 abbrev pub invariant-loop-entity : goal.invariant-loop-entity
 invariant-loop-entity g l = record {
-  long : length l.amounts ≡ entities;
-  rows : l.day ≤ last_day → (q : ℕ) → q < l.entity → get_or l.amounts q none ≡ get_or (entry (g.B.Book.kept l.book) l.day).amounts q none;
+  long : length l.row-items ≡ entities;
+  rows : l.day ≤ last_day → (q : ℕ) → q < l.entity → get_or l.row-items q none ≡ get_or (entry (g.B.Book.kept l.book) l.day).amounts q none;
 }
