@@ -5,3 +5,4 @@ pub mod DayPosted
 pub mod DayJobs
 pub mod DayTables
 pub mod Billed
+pub mod Opened
