@@ -6,3 +6,4 @@ pub mod DayJobs
 pub mod DayTables
 pub mod Billed
 pub mod Opened
+pub mod Worked
