@@ -26,12 +26,12 @@ use Rattle.accounts.specs.Histories.{History, Accounts, reserves, withdraws, pos
 use Rattle.jobs.specs.Days.{walked, run_over}
 use Rattle.jobs.specs.Jobs.{rows_of, said_of, Done, job}
 
-length_rows : (n : ℕ) (t : Trace) → length (rows_of n t) ≡ n
+pub length_rows : (n : ℕ) (t : Trace) → length (rows_of n t) ≡ n
 unfolding rows_of
 length_rows zero t = refl
 length_rows (suc n) t = let h = length_rows n t in length-append (rows_of n t) (amount t n ∷ []) ∙ grind arith
 
-row_of : (n q : ℕ) (t : Trace) → q < n → get_or (rows_of n t) q none ≡ amount t q
+pub row_of : (n q : ℕ) (t : Trace) → q < n → get_or (rows_of n t) q none ≡ amount t q
 unfolding rows_of
 row_of zero q t lt = absurd (omega arith)
 row_of (suc n) q t lt =

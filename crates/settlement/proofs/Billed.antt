@@ -35,7 +35,7 @@ chosen_same true y t u s = filled_same y t u s
 chosen_same false y t u s = s
 
 -- a day that is reserved is one
-reserved_within : (k : Kept) (d : ℕ) → (reserving k d).answer ≡ Ok tt → d ≤ last_day
+pub reserved_within : (k : Kept) (d : ℕ) → (reserving k d).answer ≡ Ok tt → d ≤ last_day
 unfolding reserving
 reserved_within k d h = grind arith
 

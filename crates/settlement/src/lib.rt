@@ -4,7 +4,6 @@
 pub mod bills;
 pub mod dayfile;
 pub mod laws;
-pub mod lists;
 pub mod posting;
 pub mod reading;
 pub mod refusal;
