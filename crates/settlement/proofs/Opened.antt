@@ -24,6 +24,9 @@ use Rattle.settlement.specs.Refusals.{Ended, answered, no_book}
 use Rattle.settlement.specs.Postings.{job_of, bills_of, Outcome, left, done, by_image, posted_sound, posted, heard_by_image, sound_watched, posted_watched}
 use Rattle.settlement.specs.Lists.{most_places, new_image}
 
+pub new_sound : (places : ℕ) → places ≤ most_places → Sound (new_kept places)
+new_sound places few = record { few = few; fits = omega arith; rising = tt; each = tt }
+
 -- what a fault tells of the reading
 pub is_broken : (r : Result ℕ ImageFault) (e : ImageFault) → fault_of r ≡ Some e → r ≡ Err e
 is_broken (Ok n) e h = cc
@@ -118,8 +121,12 @@ pub if_refused : {X E : Type 0} {P Q : Type 0} (r : Result X E) → (P → Q) �
 if_refused (Ok x) to h = tt
 if_refused (Err e) to h = to h
 
--- the law for the calls of one posting on the bytes of a new book
+-- the bytes of a new book mean one
+pub new_means : (places : ℕ) → places ≤ most_places → opened (new_image places) ≡ new_kept places
+new_means places few = (imaged (new_kept places) (new_sound places few)).back
+
+-- the law for the calls of one posting on them
 pub new_law : (places : ℕ) (calls : History) (bytes book : List ℕ) → places ≤ most_places → book ≡ new_image places → ((h : History) → Accounts h (opened book) → Accounts (calls ++ h) (opened bytes)) → Accounts calls (opened bytes)
 new_law places calls bytes book few is law =
-    let new : opened book ≡ new_kept places = ap opened is ∙ (imaged (new_kept places) (record { few = few; fits = omega arith; rising = tt; each = tt })).back in
-    subst (λ h. Accounts h (opened bytes)) (append-nil calls) (law [] (subst (λ k. Accounts [] k) (sym new) (law_new places)))
+    let new = sym (ap opened is ∙ new_means places few) in
+    subst (λ h. Accounts h (opened bytes)) (append-nil calls) (law [] (subst (λ k. Accounts [] k) new (law_new places)))

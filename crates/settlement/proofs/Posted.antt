@@ -1,5 +1,5 @@
 -- Lists of postings on the bytes of a book.
-use Rattle.std.proofs.Common.{◌≡◌, ℕ, ◌≤◌, List, [], ◌∷◌, ◌++◌, Ok, Err, Result, refl, sym, ap, ◌∙◌, subst, arith}
+use Rattle.std.proofs.Common.{◌≡◌, ℕ, ◌≤◌, List, [], ◌∷◌, ◌++◌, Ok, Err, Result, refl, sym, ap, ◌∙◌, subst}
 use Rattle.terms.specs.Told.{Told, fine, refuse}
 use Rattle.rounding.specs.Rounds.{half_away}
 use Rattle.rounding.specs.RoundsKept.{away_near}
@@ -18,6 +18,7 @@ use Rattle.settlement.specs.Refusals.{answered, no_book}
 use Rattle.settlement.specs.Postings.{no_bills, job_of, Outcome, left, done, by_image, by_file, posted_sound, posted}
 use Rattle.settlement.specs.Lists.{most_places, new_image, Filing, bytes_after, calls_of}
 use Rattle.settlement.proofs.Accepted.{job_goes}
+use Rattle.settlement.proofs.Opened.{new_sound, new_means}
 
 -- the law holds between what was called on a book and its bytes, and these mean what a book can keep
 record Stands (h : History) (book : List ℕ) : Type 0 where
@@ -47,13 +48,10 @@ module _ (f : DayFile) (ws : List Warning) (book : List ℕ) (h : History) (s : 
   unfolding posted
   after_posting = after_file (checked f.bytes.now)
 
-pub new_means : (places : ℕ) → places ≤ most_places → opened (new_image places) ≡ new_kept places
-new_means places few = (imaged (new_kept places) (record { few = few; fits = omega arith; rising = tt; each = tt })).back
-
 stands_new : (places : ℕ) → places ≤ most_places → Stands [] (new_image places)
 stands_new places few =
     let means = sym (new_means places few) in
-    record { law = subst (λ k. Accounts [] k) means (law_new places); sound = subst Sound means (record { few = few; fits = omega arith; rising = tt; each = tt }) }
+    record { law = subst (λ k. Accounts [] k) means (law_new places); sound = subst Sound means (new_sound places few) }
 
 stands_after : (places : ℕ) → places ≤ most_places → (ps : List Filing) → Stands (calls_of (new_image places) ps) (bytes_after (new_image places) ps)
 unfolding bytes_after calls_of

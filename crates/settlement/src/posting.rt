@@ -78,7 +78,7 @@ fn post_to<B: Book, S: Source, W: Watch>(
     ensures law { (h : History) → Accounts h (B.Book.kept book.old) → Accounts ((job_of reading.now.file warnings.old (B.Book.kept book.old)).calls ++ h) (B.Book.kept book.new) }
     ensures difference { (h : History) → Accounts h (B.Book.kept book.old) → IfOk result (λ b. BilledBetween (last h reading.now.file.day) (run_of reading.now.file) b.rows) }
 {
-    let day = reading.day();
+    let day = reading.file.day;
     let before = before(book, day);
     let mut rows = no_amounts();
     match work_job(book, day, HalfAway, reading, warnings, &mut rows, watch) {

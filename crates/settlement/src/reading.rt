@@ -17,7 +17,7 @@ use terms::source::Source;
 // The file, the verdict on it, and a source that answers what the file says of its day. Of another day the source may know nothing.
 #[derive(Drop)]
 pub struct Reading<'a, S: Source> {
-    pub(crate) file: DayFile<'a>,
+    pub file: DayFile<'a>,
     verdict: Result<u32, FileRefusal>,
     source: S,
     ghost checked: { told verdict ≡ checked file.bytes.now },
@@ -53,13 +53,6 @@ impl<'a> Reading<'a, DayTable> {
 }
 
 impl<S: Source> Reading<'_, S> {
-    // The day that the file is read for.
-    pub fn day(&self) -> u32
-        ensures { result ≡ self.now.file.day }
-    {
-        self.file.day
-    }
-
     // How many value lines the file has, or why it is refused.
     pub fn verdict(&self) -> Result<u32, FileRefusal>
         ensures { told result ≡ checked self.now.file.bytes.now }

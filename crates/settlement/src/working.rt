@@ -26,7 +26,7 @@ pub fn work_file<R: Rounding + Drop, S: Source, W: Watch>(
     ensures law { IfOk result (λ r. WorkedBy (run_worked_of reading.now.file warnings.old (R.Rounding.rounded rule)) r.sheet.work) }
 {
     match reading.verdict() {
-        Ok(_) => match RunDay::try_from(reading.day()) {
+        Ok(_) => match RunDay::try_from(reading.file.day) {
             Ok(day) => Ok(run_day(day, rule, reading, warnings, watch)),
             Err(refusal) => Err(Unworked::Day(refusal)),
         },

@@ -18,11 +18,10 @@ returns-in-Ok g c =
     let k = g.B.Book.kept c.args.book.now in
     let t : Table = chosen f.fill (g.S.Source.table r.source) in
     let same : SameDay f.day t (table_of f) = chosen_same f.fill f.day (g.S.Source.table r.source) _ (record { agree = r.answers }) in
-    let w = simp (c.day-day.ensures, c.no_amounts-rows.ensures) at c.in-Ok.ensures in
-    let before = simp c.day-day.ensures at c.before-before.ensures in
+    let w = simp c.no_amounts-rows.ensures at c.in-Ok.ensures in
     let d = on_file f t same ws k in
     record {
-      answer = ap answered (bills_posted f t same ws k c.in-Ok.charged c.before-before.result c.work_job.new.bills w.answer before w.bills);
+      answer = ap answered (bills_posted f t same ws k c.in-Ok.charged c.before-before.result c.work_job.new.bills w.answer c.before-before.ensures w.bills);
       kept = w.kept ∙ d.kept;
       beside = w.beside;
       warnings = w.warnings ∙ d.warnings;
@@ -40,7 +39,7 @@ returns-in-Err g c =
     let k = g.B.Book.kept c.args.book.now in
     let t : Table = chosen f.fill (g.S.Source.table r.source) in
     let same : SameDay f.day t (table_of f) = chosen_same f.fill f.day (g.S.Source.table r.source) _ (record { agree = r.answers }) in
-    let w = simp (c.day-day.ensures, c.no_amounts-rows.ensures) at c.in-Err.ensures in
+    let w = simp c.no_amounts-rows.ensures at c.in-Err.ensures in
     let d = on_file f t same ws k in
     record {
       answer = ap answered (bills_refused f t same ws k c.in-Err.refusal w.answer);

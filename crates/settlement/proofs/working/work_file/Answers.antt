@@ -16,7 +16,7 @@ returns-in-Ok-try_from g c =
     let rd = g.R.Rounding.rounded c.args.rule in
     let t : Table = chosen f.fill (g.S.Source.table r.source) in
     let same : SameDay f.day t (table_of f) = chosen_same f.fill f.day (g.S.Source.table r.source) _ (record { agree = r.answers }) in
-    let day = simp c.day.ensures at c.in-Ok-try_from.ensures in
+    let day = c.in-Ok-try_from.ensures in
     let y = checked_day c.in-Ok-try_from.day.day f.day day in
     let w = simp y at c.run_day.ensures in
     let is = worked_done f ws rd c.in-Ok.field-0 _ c.in-Ok.ensures day in
@@ -45,7 +45,7 @@ returns-in-Err-try_from g c =
     let f = c.args.reading.now.file in
     let ws = c.args.warnings.now in
     let rd = g.R.Rounding.rounded c.args.rule in
-    let day = simp c.day.ensures at c.in-Err-try_from.ensures in
+    let day = c.in-Err-try_from.ensures in
     let is = worked_no_day f ws rd c.in-Ok.field-0 c.in-Err-try_from.refusal c.in-Ok.ensures day in
     record {
       answer = ap (λ o. o.answer) (sym is);
