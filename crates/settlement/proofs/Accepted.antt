@@ -1,5 +1,5 @@
 -- What a job does to a book, by the definitions alone: the law of accounts goes on, and what is kept is what a book can keep.
-use Rattle.std.proofs.Common.{◌≡◌, ℕ, zero, suc, ◌+◌, ◌<◌, ◌≤◌, Bool, true, false, List, [], ◌∷◌, ◌++◌, length, get_or, ℤ, Some, None, Option, refl, sym, ap, ◌∙◌, subst, arith, inl, inr, ltb}
+use Rattle.std.proofs.Common.{◌≡◌, ℕ, zero, suc, ◌<◌, ◌≤◌, Bool, true, false, List, ◌∷◌, ◌++◌, length, get_or, ℤ, Some, None, Option, refl, sym, ap, ◌∙◌, subst, arith, ltb}
 use Rattle.std.proofs.lemmas.Bool.{cond_both}
 use Rattle.std.proofs.lemmas.Int.{ints}
 use Rattle.std.proofs.lemmas.List.{get_or_past}
@@ -10,7 +10,7 @@ use Rattle.rounding.specs.Rounds.{Lawful}
 use Rattle.amounts.specs.declared.row.Amounts.{Amounts}
 use Rattle.amounts.specs.Triples.{none, plus}
 use Rattle.amounts.specs.Tables.{Judged, working}
-use Rattle.amounts.specs.Traces.{Trace, amount, amount_over, JudgedOver, Accepted, entities, resources}
+use Rattle.amounts.specs.Traces.{Trace, amount_over, JudgedOver, Accepted, entities, resources}
 use Rattle.amounts.proofs.Ranged.{fit}
 use Rattle.intervals.specs.declared.warning.Warning.{Warning}
 use Rattle.intervals.specs.Courses.{course}
@@ -18,7 +18,7 @@ use Rattle.runs.specs.Bounds.{Within}
 use Rattle.runs.proofs.Growing.{within_none, amounts_within}
 use Rattle.books.specs.Places.{in_range}
 use Rattle.books.specs.Kept.{Kept, entry, holds}
-use Rattle.books.specs.Calls.{reserving, lifting}
+use Rattle.books.specs.Calls.{reserving}
 use Rattle.books.specs.Laws.{Sound, SoundPlace}
 use Rattle.books.proofs.Entries.{held_taken, put_held}
 use Rattle.books.proofs.Sounds.{put_sound}

@@ -1,7 +1,7 @@
 -- What the posting of a file bills, over any table that answers as the file does about its day.
 use Rattle.std.proofs.Common.{◌≡◌, ◌≢◌, ℕ, ◌+◌, ◌<◌, ◌≤◌, Bool, true, false, List, length, set, get_or, ℤ, Ok, Err, Result, refl, sym, ap, ◌∙◌, subst, arith, get_or-set_same, get_or-set_other, below_more}
 use Rattle.std.proofs.lemmas.List.{ext_get_or}
-use Rattle.terms.specs.Told.{Told, fine}
+use Rattle.terms.specs.Told.{fine}
 use Rattle.terms.specs.Limits.{last_day}
 use Rattle.terms.specs.Sources.{Table}
 use Rattle.rounding.specs.Rounds.{half_away}
@@ -13,7 +13,6 @@ use Rattle.books.specs.declared.refusal.BookRefusal.{BookRefusal}
 use Rattle.books.specs.declared.refusal.BookRefusal.TheVariants.{OutOfRange, Reserved, Full, NotReserved}
 use Rattle.books.specs.Kept.{Kept, entry}
 use Rattle.books.specs.Calls.{reserving}
-use Rattle.accounts.specs.Slips.{given}
 use Rattle.jobs.specs.declared.refusal.JobRefusal.{JobRefusal}
 use Rattle.jobs.specs.declared.refusal.JobRefusal.TheVariants.{Reservation, Interval, Posting}
 use Rattle.jobs.specs.Refusals.{numbered}
@@ -22,7 +21,6 @@ use Rattle.accounts.specs.declared.refusal.PostRefusal.TheVariants.{NotReserved 
 use Rattle.jobs.specs.Jobs.{job}
 use Rattle.settlement.specs.declared.dayfile.DayFile.{DayFile}
 use Rattle.settlement.specs.declared.bills.Before.{Before}
-use Rattle.settlement.specs.declared.bills.Bills.{Bills}
 use Rattle.settlement.specs.SameDays.{SameDay, SameDone}
 use Rattle.settlement.specs.Tables.{chosen, table_of}
 use Rattle.settlement.specs.Postings.{no_bills, job_of, before_of, bills_by, bills_of}

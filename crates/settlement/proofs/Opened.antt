@@ -1,7 +1,7 @@
 -- A book that was opened from its bytes, posted to, and closed.
-use Rattle.std.proofs.Common.{◌≡◌, ℕ, ◌<◌, ◌≤◌, List, [], ◌++◌, get_or, Some, None, Ok, Err, Option, Result, IfErr, slice_index, refl, sym, ap, ◌∙◌, subst, arith}
+use Rattle.std.proofs.Common.{◌≡◌, ℕ, ◌<◌, ◌≤◌, List, [], ◌++◌, Some, None, Ok, Err, Result, IfErr, slice_index, refl, sym, ap, ◌∙◌, subst, arith}
 use Rattle.std.proofs.lemmas.List.{append-nil}
-use Rattle.terms.specs.Told.{Told, fine}
+use Rattle.terms.specs.Told.{fine}
 use Rattle.intervals.specs.declared.warning.Warning.{Warning}
 use Rattle.detfile.specs.declared.refusal.FileRefusal.{FileRefusal}
 use Rattle.detfile.specs.declared.refusal.FileRefusal.TheVariants.{TooLong, Names, Shape, Form, Beyond}
@@ -15,10 +15,9 @@ use Rattle.imagebook.specs.Images.{image_read, opened, fault_of, beside_by, imag
 use Rattle.imagebook.proofs.Imaging.{imaged, read_exact}
 use Rattle.accounts.specs.Histories.{History, Accounts}
 use Rattle.accounts.proofs.Effects.{law_new}
-use Rattle.jobs.specs.Jobs.{Done, job_watched}
+use Rattle.jobs.specs.Jobs.{job_watched}
 use Rattle.settlement.specs.declared.dayfile.DayFile.{DayFile}
 use Rattle.settlement.specs.declared.bills.Bills.{Bills}
-use Rattle.settlement.specs.declared.refusal.Unposted.{Unposted}
 use Rattle.settlement.specs.Tables.{table_of}
 use Rattle.settlement.specs.Refusals.{Ended, answered, no_book}
 use Rattle.settlement.specs.Postings.{job_of, bills_of, Outcome, left, done, by_image, posted_sound, posted, heard_by_image, sound_watched, posted_watched}

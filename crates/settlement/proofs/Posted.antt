@@ -1,12 +1,11 @@
 -- Lists of postings on the bytes of a book.
-use Rattle.std.proofs.Common.{◌≡◌, ℕ, ◌≤◌, List, [], ◌∷◌, ◌++◌, Ok, Err, Result, refl, sym, ap, ◌∙◌, subst}
+use Rattle.std.proofs.Common.{ℕ, ◌≤◌, List, [], ◌∷◌, ◌++◌, Ok, Err, Result, sym, subst}
 use Rattle.terms.specs.Told.{Told, fine, refuse}
 use Rattle.rounding.specs.Rounds.{half_away}
 use Rattle.rounding.specs.RoundsKept.{away_near}
 use Rattle.intervals.specs.declared.warning.Warning.{Warning}
 use Rattle.detfile.specs.Files.{checked}
 use Rattle.books.specs.Laws.{Sound}
-use Rattle.books.specs.Lists.{new_kept}
 use Rattle.imagebook.specs.declared.fault.ImageFault.{ImageFault}
 use Rattle.imagebook.specs.Images.{image_read, opened, image_of}
 use Rattle.imagebook.proofs.Imaging.{imaged}
@@ -14,8 +13,7 @@ use Rattle.accounts.specs.Histories.{History, Accounts}
 use Rattle.accounts.proofs.Effects.{law_new}
 use Rattle.settlement.specs.declared.dayfile.DayFile.{DayFile}
 use Rattle.settlement.specs.Tables.{table_of}
-use Rattle.settlement.specs.Refusals.{answered, no_book}
-use Rattle.settlement.specs.Postings.{no_bills, job_of, Outcome, left, done, by_image, by_file, posted_sound, posted}
+use Rattle.settlement.specs.Postings.{no_bills, job_of, by_image, by_file, posted_sound, posted}
 use Rattle.settlement.specs.Lists.{most_places, new_image, Filing, bytes_after, calls_of}
 use Rattle.settlement.proofs.Accepted.{job_goes}
 use Rattle.settlement.proofs.Opened.{new_sound, new_means}

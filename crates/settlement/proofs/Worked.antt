@@ -1,5 +1,5 @@
 -- The working of a file's day, over any table that answers as the file does about that day.
-use Rattle.std.proofs.Common.{◌≡◌, ℕ, List, ℤ, sym, ap, ◌∙◌, refl, subst, arith}
+use Rattle.std.proofs.Common.{◌≡◌, ℕ, List, ℤ, sym, ap, ◌∙◌, refl, arith}
 use Rattle.terms.specs.Told.{Told, fine}
 use Rattle.terms.specs.Limits.{last_interval}
 use Rattle.terms.specs.Sources.{Table}
@@ -20,8 +20,8 @@ use Rattle.jobs.specs.Jobs.{said_of}
 use Rattle.settlement.specs.declared.dayfile.DayFile.{DayFile}
 use Rattle.settlement.specs.SameDays.{SameDay}
 use Rattle.settlement.specs.Tables.{table_of}
-use Rattle.settlement.specs.Workings.{Worked, Outcome, run_worked_of, left, done, by_day, worked, heard_by_day, worked_watched}
-use Rattle.settlement.proofs.DayWalked.{walks_same, watched_same}
+use Rattle.settlement.specs.Workings.{run_worked_of, left, done, by_day, worked, heard_by_day, worked_watched}
+use Rattle.settlement.proofs.DayWalked.{walks_same}
 use Rattle.settlement.proofs.DayRuns.{through_same, said_same, worked_by_same}
 
 -- a day that is checked is the day that was asked for

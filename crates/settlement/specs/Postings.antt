@@ -1,5 +1,5 @@
 -- What the posting of a file comes to, from the bytes of the file and of the book. Assumes nothing.
-use Rattle.std.specs.Prelude.{◌≡◌, ℕ, Bool, true, false, cond, List, [], Ok, Err, Result}
+use Rattle.std.specs.Prelude.{ℕ, List, [], Ok, Err, Result}
 use Rattle.std.proofs.Math.ListN.{replicate}
 use Rattle.terms.specs.Told.{Told, fine, refuse}
 use Rattle.terms.specs.Limits.{last_interval}

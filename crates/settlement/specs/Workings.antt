@@ -1,5 +1,5 @@
 -- What the working of a file's day comes to. Assumes nothing.
-use Rattle.std.specs.Prelude.{ℕ, Bool, true, false, List, ℤ, Ok, Err, Result}
+use Rattle.std.specs.Prelude.{ℕ, List, ℤ, Ok, Err, Result}
 use Rattle.terms.specs.Told.{Told, fine, refuse}
 use Rattle.terms.specs.Limits.{last_interval}
 use Rattle.amounts.specs.Traces.{Trace}

@@ -1,6 +1,4 @@
-use Rattle.std.proofs.Common.{◌≡◌, ℕ, ◌+◌, ◌<◌, length, set, get_or, ap, sym, ◌∙◌, subst, arith, length-set, get_or-set_same, get_or-set_other, below_more}
-use Rattle.amounts.specs.Traces.{entities}
-use Rattle.amounts.specs.Triples.{none}
+use Rattle.std.proofs.Common.{length, ap, ◌∙◌, arith, length-set}
 use Rattle.books.specs.Kept.{entry}
 use Rattle.books.proofs.Sounds.{entry_amounted}
 use Rattle.settlement.proofs.Billed.{before_is, row_more}

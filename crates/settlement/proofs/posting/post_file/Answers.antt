@@ -1,4 +1,4 @@
-use Rattle.std.proofs.Common.{◌≡◌, sym, ap, subst, ◌∙◌, ◌++◌, refl}
+use Rattle.std.proofs.Common.{sym, ap, subst, ◌∙◌, ◌++◌, refl}
 use Rattle.imagebook.specs.Images.{opened}
 use Rattle.accounts.specs.Histories.{History, Accounts}
 use Rattle.settlement.specs.Postings.{posted}

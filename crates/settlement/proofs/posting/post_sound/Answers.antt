@@ -1,7 +1,7 @@
 use Rattle.std.proofs.Common.{ℕ, ◌<◌, slice_index, sym, ap, subst, ◌∙◌}
 use Rattle.accounts.specs.Histories.{Accounts}
 use Rattle.books.specs.ShelvesKept.{sound_of}
-use Rattle.imagebook.specs.Images.{places_in, image_read, opened}
+use Rattle.imagebook.specs.Images.{places_in, image_read}
 use Rattle.imagebook.specs.ImagesKept.{few_places}
 use Rattle.settlement.specs.Postings.{posted_sound}
 use Rattle.settlement.proofs.Opened.{is_broken, is_read, sound_broken, heard_broken, book_is, answer_is, warnings_are, watch_is, law_is, same_is, law_left, if_refused}
