@@ -22,6 +22,7 @@ mod meters;
 mod notations;
 mod openings;
 mod placebytes;
+mod postings;
 mod questions;
 mod records;
 mod refusals;
@@ -35,6 +36,7 @@ mod stops;
 mod warns;
 mod watches;
 mod wholejobs;
+mod workings;
 
 use sources::records::Record;
 use std::process::Abort;
