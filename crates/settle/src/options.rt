@@ -1,5 +1,6 @@
 // The options of `settle work` and `settle post`.
 use crate::words::{NoNumber, number_of};
+use messages::printable::Printable;
 use rounding::rules::{NoRule, Rule};
 use std::fmt;
 
@@ -22,11 +23,17 @@ pub(crate) enum OptionFault<'a> {
 impl fmt::Display for OptionFault<'_> {
     fn fmt<W: fmt::Write>(&self, f: &mut fmt::Formatter<W>) -> fmt::Result {
         match self {
-            OptionFault::Unknown(word) => write!(
-                f,
-                "{word} is no option of work or post; allowed are --rule away, --rule even, --fill and --direct"
-            ),
-            OptionFault::NoRule(word, fault) => write!(f, "{word} is {fault}"),
+            OptionFault::Unknown(word) => {
+                let word = Printable(word);
+                write!(
+                    f,
+                    "{word} is no option of work or post; allowed are --rule away, --rule even, --fill and --direct"
+                )
+            }
+            OptionFault::NoRule(word, fault) => {
+                let word = Printable(word);
+                write!(f, "{word} is {fault}")
+            }
             OptionFault::RuleMissing => write!(
                 f,
                 "--rule wants a rounding rule after it; allowed are away and even"

@@ -1,7 +1,8 @@
 // `settle post BOOK DAY FILE [--rule away|even] [--fill] [--direct]`
+use crate::beside::Beside;
 use crate::console::Console;
+use crate::held_book::HeldBook;
 use crate::options::{Options, day_and_options};
-use crate::save::{guard, let_go, prepare_over, replace, sync_folder};
 use crate::show_book::seek;
 use amounts::row::Amounts;
 use books::place::Place;
@@ -19,10 +20,12 @@ use jobs::lists::work_jobs;
 use jobs::refusal::JobRefusal;
 use jobs::watch::Watch;
 use messages::broken::MOST_BYTES;
+use messages::printable::Printable;
 use messages::{broken, stopped, table, unposted};
 use runs::refusal::IntervalRefusal;
 use runs::working::WARNING_ROWS;
 use sources::fill::ZeroFill;
+use std::fs::File;
 use std::io;
 use std::rt::{Clock, Files};
 use std::time::Instant;
@@ -47,22 +50,30 @@ struct Bills {
     rows: [Amounts; ENTITIES],
 }
 
+impl Bills {
+    // Whether the day was posted before with the same amounts, as where a call that was cut off at its last line is made again.
+    fn are_repeated(&self) -> bool {
+        self.before.billed && !self.rows.iter().any(|row| table::is_shown(*row))
+    }
+}
+
 // Tells the warnings of each interval, and how far a long run has come. What cannot be printed is kept until the day is through.
 #[derive(Drop)]
 struct Teller<'a, R> {
     console: Console<'a, R>,
-    start: Instant,
+    start: Option<Instant>,
     fault: Option<io::Error>,
 }
 
-impl<R: Files + Clock + Print + Eprint + AllocGlobal> Teller<'_, R> {
+impl<R: Files<File = File> + Clock + Print + Eprint + AllocGlobal> Teller<'_, R> {
     fn tell(&self, interval: u32, rows: &[Warning], count: usize) -> io::Result<()> {
         self.console.say_warnings(rows, count)?;
-        self.console.tell_hour(&self.start, interval)
+        self.console.tell_hour(&self.start, interval);
+        Ok(())
     }
 }
 
-impl<R: Files + Clock + Print + Eprint + AllocGlobal> Watch for Teller<'_, R> {
+impl<R: Files<File = File> + Clock + Print + Eprint + AllocGlobal> Watch for Teller<'_, R> {
     ghost State = { Unit {0} };
 
     ghost state = { λ w. tt };
@@ -76,7 +87,7 @@ impl<R: Files + Clock + Print + Eprint + AllocGlobal> Watch for Teller<'_, R> {
     }
 }
 
-impl<R: Files + Clock + Print + Eprint + AllocGlobal> Console<'_, R> {
+impl<R: Files<File = File> + Clock + Print + Eprint + AllocGlobal> Console<'_, R> {
     // A day worked from a file and posted to a book; false where something is refused, the run stops or the command is wrong, and then the
     // book is as it was, and where the posted book's folder cannot be synced.
     pub(crate) fn post(
@@ -126,59 +137,70 @@ impl<R: Files + Clock + Print + Eprint + AllocGlobal> Console<'_, R> {
             return Ok(false);
         }
         if posting.options.fill {
-            self.post_guarded(posting, ZeroFill { below: source })
+            self.post_held(posting, ZeroFill { below: source })
         } else {
-            self.post_guarded(posting, source)
+            self.post_held(posting, source)
         }
     }
 
-    // No other call changes the book from the time it is read to the time it is written.
-    fn post_guarded<S: Source + Drop>(
+    // No other call posts to the book from before it is read to the end of the command.
+    fn post_held<S: Source + Drop>(&self, posting: Posting<'_>, source: S) -> anyhow::Result<bool> {
+        let path = Printable(posting.book);
+        let book = match HeldBook::hold(self.rt, posting.book) {
+            Ok(book) => book,
+            Err(fault) => return self.refuse(format_args!("{path}: {fault}")),
+        };
+        let image = match book.read(self.rt, MOST_BYTES) {
+            Ok(image) => image,
+            Err(e) => return self.refuse(format_args!("{path}: cannot be read: {e}")),
+        };
+        self.warn_empty(posting.book, &image)?;
+        let (image, bills) = self.post_image(posting, image, source)?;
+        match bills {
+            Some(bills) => self.save(posting, &book, image.as_slice(), &bills),
+            None => Ok(false),
+        }
+    }
+
+    // Writes the book after the posting, and prints the bills; true where the new bytes are the book's for good. Until they have the book's
+    // name, whatever fails takes them away again; from then on nothing is taken away.
+    fn save(
         &self,
         posting: Posting<'_>,
-        source: S,
+        book: &HeldBook,
+        image: &[u8],
+        bills: &Bills,
     ) -> anyhow::Result<bool> {
-        let path = posting.book;
-        let beside = match guard(self.rt, path) {
+        let path = Printable(posting.book);
+        let beside = match book.write_beside(self.rt, image) {
             Ok(beside) => beside,
             Err(fault) => return self.refuse(format_args!("{path}: {fault}")),
         };
-        let posted = self.post_beside(posting, beside.as_str(), source);
-        if let Ok(true) = posted {
-            return posted;
+        let placed = self.place(posting, book, &beside, bills);
+        if !matches!(placed, Ok(true)) {
+            let _ = beside.discard(self.rt);
+            return placed;
         }
-        if let Err(fault) = let_go(self.rt, beside.as_str()) {
-            self.complain(format_args!("{path}: {fault}"))?;
+        if let Err(fault) = book.sync_folder() {
+            return self.refuse(format_args!("{path}: {fault}"));
         }
-        posted
+        let day = posting.day;
+        println!(self.rt; "{path}: day {day} posted")?;
+        Ok(true)
     }
 
-    // True where the book is written and its folder synced; the file beside it then has the book's name.
-    fn post_beside<S: Source + Drop>(
+    // Prints the bills, and then gives the new bytes the book's name; true where they have it.
+    fn place(
         &self,
         posting: Posting<'_>,
-        beside: &str,
-        source: S,
+        book: &HeldBook,
+        beside: &Beside,
+        bills: &Bills,
     ) -> anyhow::Result<bool> {
-        let path = posting.book;
-        let Some(image) = self.load_most(path, MOST_BYTES)? else {
-            return Ok(false);
-        };
-        let (image, bills) = self.post_image(posting, image, source)?;
-        let Some(bills) = bills else {
-            return Ok(false);
-        };
-        if let Err(fault) = prepare_over(self.rt, path, beside, image.as_slice()) {
-            return self.refuse(format_args!("{path}: {fault}"));
-        }
-        self.say_bills(&bills)?;
-        let day = posting.day;
-        if let Err(fault) = replace(self.rt, path, beside) {
+        self.say_bills(bills)?;
+        if let Err(fault) = book.replace(self.rt, beside) {
+            let path = Printable(posting.book);
             return self.refuse(format_args!("{path}: {fault}; the bills above are not posted"));
-        }
-        println!(self.rt; "{path}: day {day} posted")?;
-        if let Err(fault) = sync_folder(self.rt, path) {
-            return self.refuse(format_args!("{path}: {fault}"));
         }
         Ok(true)
     }
@@ -218,7 +240,7 @@ impl<R: Files + Clock + Print + Eprint + AllocGlobal> Console<'_, R> {
         }];
         let mut teller = Teller {
             console: *self,
-            start: Instant::now(self.rt)?,
+            start: Instant::now(self.rt).ok(),
             fault: None,
         };
         let mut sources = Vec::new(self.rt.alloc());
@@ -238,11 +260,12 @@ impl<R: Files + Clock + Print + Eprint + AllocGlobal> Console<'_, R> {
             return Err(fault.into());
         }
         let [end] = ends;
+        let rows_billed = end.bills;
         match end.answer {
             Ok(charged) => Ok(Some(Bills {
                 before,
                 charged,
-                rows: end.bills,
+                rows: rows_billed,
             })),
             Err(refusal) => {
                 self.say_unposted(posting, sources.as_slice(), rows.as_slice(), refusal)?;
@@ -253,6 +276,7 @@ impl<R: Files + Clock + Print + Eprint + AllocGlobal> Console<'_, R> {
 
     fn say_broken(&self, path: &str, bytes: &[u8], fault: ImageFault) -> io::Result<()> {
         let why = broken::Sentence { bytes, fault };
+        let path = Printable(path);
         println!(self.rt; "{path}: no book: {why}")
     }
 
@@ -264,7 +288,8 @@ impl<R: Files + Clock + Print + Eprint + AllocGlobal> Console<'_, R> {
         rows: &[Warning],
         refusal: JobRefusal,
     ) -> io::Result<()> {
-        let Posting { book, day, .. } = posting;
+        let day = posting.day;
+        let book = Printable(posting.book);
         match refusal {
             JobRefusal::Interval(halt @ IntervalRefusal::Halted(stop)) => {
                 self.say_warnings(rows, stop.warnings)?;
@@ -294,6 +319,9 @@ impl<R: Files + Clock + Print + Eprint + AllocGlobal> Console<'_, R> {
             println!(self.rt; "posted before: nothing")?;
         }
         println!(self.rt; "charged shares: {charged}")?;
+        if bills.are_repeated() {
+            println!(self.rt; "the book had just these amounts already; every bill is zero")?;
+        }
         println!(self.rt; "bills:")?;
         self.say_table(&bills.rows, table::total(&bills.rows))
     }

@@ -89,7 +89,7 @@ impl<R: Files + Clock + Print + Eprint + AllocGlobal> Console<'_, R> {
 
     // The intervals of the day; false where the run stops in one.
     fn work_intervals<S: Source>(&self, source: &S, run: &mut Run<Rule>) -> anyhow::Result<bool> {
-        let start = Instant::now(self.rt)?;
+        let start = Instant::now(self.rt).ok();
         let mut rows = vec![in self.rt.alloc(); Warning::default(); WARNING_ROWS]?;
         for interval in 1..=LAST_INTERVAL {
             match run.interval(source, interval, rows.as_mut_slice()) {
@@ -105,7 +105,7 @@ impl<R: Files + Clock + Print + Eprint + AllocGlobal> Console<'_, R> {
                     return Ok(false);
                 }
             }
-            self.tell_hour(&start, interval)?;
+            self.tell_hour(&start, interval);
         }
         Ok(true)
     }
@@ -130,11 +130,18 @@ impl<R: Files + Clock + Print + Eprint + AllocGlobal> Console<'_, R> {
     }
 
     // After the last interval of an hour, where the work takes long.
-    pub(crate) fn tell_hour(&self, start: &Instant, interval: u32) -> io::Result<()> {
-        if interval % 4 == 0 && start.elapsed(self.rt)?.as_secs() >= 1 {
+    pub(crate) fn tell_hour(&self, start: &Option<Instant>, interval: u32) {
+        if interval % 4 == 0 && self.is_long(start) {
             let hour = interval / 4;
-            self.hint(format_args!("settle: hour {hour} of 24 done"))?;
+            self.hint(format_args!("settle: hour {hour} of 24 done"));
         }
-        Ok(())
+    }
+
+    // Whether the work has taken a second by now; not where the clock does not tell.
+    fn is_long(&self, start: &Option<Instant>) -> bool {
+        match start {
+            Some(start) => start.elapsed(self.rt).is_ok_and(|time| time.as_secs() >= 1),
+            None => false,
+        }
     }
 }
