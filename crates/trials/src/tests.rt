@@ -12,7 +12,6 @@ mod determinants;
 mod fields;
 mod fills;
 mod imaging;
-mod joblists;
 mod judging;
 mod keeping;
 mod layouts;
