@@ -21,7 +21,7 @@ use Rattle.settlement.specs.declared.bills.Bills.{Bills}
 use Rattle.settlement.specs.Tables.{table_of}
 use Rattle.settlement.specs.Refusals.{Ended, answered, no_book}
 use Rattle.settlement.specs.Postings.{job_of, bills_of, Outcome, left, done, by_image, posted_sound, posted, heard_by_image, sound_watched, posted_watched}
-use Rattle.settlement.specs.Lists.{most_places, new_image}
+use Rattle.settlement.specs.Accounts.{most_places, new_image}
 
 pub new_sound : (places : ℕ) → places ≤ most_places → Sound (new_kept places)
 new_sound places few = record { few = few; fits = omega arith; rising = tt; each = tt }

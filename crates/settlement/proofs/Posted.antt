@@ -14,7 +14,8 @@ use Rattle.accounts.proofs.Effects.{law_new}
 use Rattle.settlement.specs.declared.dayfile.DayFile.{DayFile}
 use Rattle.settlement.specs.Tables.{table_of}
 use Rattle.settlement.specs.Postings.{no_bills, job_of, by_image, by_file, posted_sound, posted}
-use Rattle.settlement.specs.Lists.{most_places, new_image, Filing, bytes_after, calls_of}
+use Rattle.settlement.specs.Accounts.{most_places, new_image, Begins}
+use Rattle.settlement.specs.Lists.{Filing, bytes_after, calls_of}
 use Rattle.settlement.proofs.Accepted.{job_goes}
 use Rattle.settlement.proofs.Opened.{new_sound, new_means}
 
@@ -56,5 +57,5 @@ unfolding bytes_after calls_of
 stands_after places few [] = stands_new places few
 stands_after places few (p ∷ ps) = after_posting p.file p.warnings (bytes_after (new_image places) ps) (calls_of (new_image places) ps) (stands_after places few ps)
 
-pub postings_stand : (places : ℕ) (ps : List Filing) → places ≤ most_places → Accounts (calls_of (new_image places) ps) (opened (bytes_after (new_image places) ps))
-postings_stand places ps few = (stands_after places few ps).law
+pub postings_begin : (book : List ℕ) (ps : List Filing) → Begins (calls_of book ps) book (bytes_after book ps)
+postings_begin book ps places few is = subst (λ b. Accounts (calls_of b ps) (opened (bytes_after b ps))) (sym is) (stands_after places few ps).law

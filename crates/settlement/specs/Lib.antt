@@ -4,4 +4,5 @@ pub mod TablesKept
 pub mod Refusals
 pub mod Postings
 pub mod Workings
+pub mod Accounts
 pub mod Lists

@@ -1,10 +1,9 @@
 // What holds of runs and jobs over sources that agree about a day, and of lists of postings: the check asks for the proofs here.
-ghost use Rattle.std.specs.Prelude.{ℕ, ◌≤◌, List};
+ghost use Rattle.std.specs.Prelude.{ℕ, List};
 ghost use Rattle.terms.specs.Sources.{Table};
-ghost use Rattle.imagebook.specs.Images.{opened};
-ghost use Rattle.accounts.specs.Histories.{Accounts};
 ghost use Rattle.settlement.specs.SameDays.{SameDay, SameRuns, SameWalks, SameJobs, SameWatched};
-ghost use Rattle.settlement.specs.Lists.{most_places, new_image, Filing, bytes_after, calls_of};
+ghost use Rattle.settlement.specs.Accounts.{Begins};
+ghost use Rattle.settlement.specs.Lists.{Filing, bytes_after, calls_of};
 
 use jobs::watch::Watch;
 
@@ -14,11 +13,11 @@ pub fn day_law<W: Watch>()
     ensures runs { (d : ℕ) (t u : Table) → SameDay d t u → SameRuns d t u }
     ensures walks { (d : ℕ) (t u : Table) → SameDay d t u → SameWalks d t u }
     ensures jobs { (d : ℕ) (t u : Table) → SameDay d t u → SameJobs d t u }
-    ensures watch { (d : ℕ) (t u : Table) → SameDay d t u → SameWatched d t u W.Watch.told }
+    ensures watch { (d : ℕ) (t u : Table) → SameDay d t u → SameWatched d t u W.told }
 {}
 
 // Whatever files are posted to the bytes of a new book, one after the other, each accepted or refused: the law of accounts holds between all that
 // was called on the book and what its bytes then mean.
 pub fn postings_law()
-    ensures { (places : ℕ) (ps : List Filing) → places ≤ most_places → Accounts (calls_of (new_image places) ps) (opened (bytes_after (new_image places) ps)) }
+    ensures { (book : List ℕ) (ps : List Filing) → Begins (calls_of book ps) book (bytes_after book ps) }
 {}

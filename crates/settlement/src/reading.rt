@@ -21,7 +21,7 @@ pub struct Reading<'a, S: Source> {
     verdict: Result<u32, FileRefusal>,
     source: S,
     ghost checked: { told verdict ≡ checked file.bytes.now },
-    ghost answers: { (d u i : ℕ) → S.Source.table source d u file.day i ≡ asked file.bytes.now d u file.day i },
+    ghost answers: { (d u i : ℕ) → S.table source d u file.day i ≡ asked file.bytes.now d u file.day i },
 }
 
 impl<'a> Reading<'a, FileSource<'a>> {
@@ -65,9 +65,9 @@ impl<S: Source> Source for Reading<'_, S> {
     ghost use Rattle.settlement.specs.Tables.{chosen};
     ghost use Rattle.settlement.specs.TablesKept.{chosen_laws};
 
-    ghost table = { λ r. chosen r.file.fill (S.Source.table r.source) };
+    ghost table = { λ r. chosen r.file.fill (S.table r.source) };
 
-    ghost laws = { chosen_laws (λ r. r.file.fill) (λ r. r.source) S.Source.laws };
+    ghost laws = { chosen_laws (λ r. r.file.fill) (λ r. r.source) S.laws };
 
     // With zero for null, where the file is to be read so.
     fn ask(&self, question: Question) -> Answer {
