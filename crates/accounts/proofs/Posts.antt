@@ -1,5 +1,5 @@
 -- The law of accounts is kept by a posting.
-use Rattle.std.proofs.Common.{◌≡◌, ℕ, ◌<◌, ◌≤◌, Bool, true, false, List, ◌∷◌, length, take, get_or, Err, Some, None, Option, refl, sym, ap, ◌∙◌, subst, arith, get_or-take}
+use Rattle.std.proofs.Common.{◌≡◌, ℕ, ◌<◌, ◌≤◌, Bool, true, false, List, ◌∷◌, length, take, get_or, Ok, Err, Result, IfOk, Some, None, Option, refl, sym, ap, ◌∙◌, subst, arith, get_or-take}
 use Rattle.terms.specs.Told.{Told, fine}
 use Rattle.terms.specs.Limits.{last_day, last_interval}
 use Rattle.amounts.specs.declared.row.Amounts.{Amounts}
@@ -14,10 +14,12 @@ use Rattle.accounts.specs.declared.refusal.PostRefusal.{PostRefusal}
 use Rattle.accounts.specs.declared.refusal.PostRefusal.TheVariants.{NotReserved, OtherDay, TooShort, FewRows}
 use Rattle.accounts.specs.Refusals.{numbered, told}
 use Rattle.accounts.specs.Postings.{Said, said, posting, posted_by, misfit, settled, less, billed}
-use Rattle.accounts.specs.Histories.{History, Accounts, effect, took, posts, SlipOut, Known}
+use Rattle.accounts.specs.Histories.{History, Accounts, effect, took, posts, last, SlipOut, Known}
+use Rattle.accounts.specs.Bills.{BilledBetween}
 use Rattle.accounts.proofs.Billing.{row_billed}
 use Rattle.accounts.proofs.Effects.{law_stray, law_settled}
 use Rattle.accounts.proofs.Keeping.{lift_law, out_reserved}
+use Rattle.accounts.proofs.Wording.{posts as in_words}
 
 -- what a sheet says of its run, whose trace is t
 pub record SaidBy (t : Trace) (s : Said) : Type 0 where
@@ -79,6 +81,12 @@ module _ (k : Kept) (d : ℕ) (s : Said) (bills : List Amounts) where
         go false r = subst (λ p. Accounts (posts d t (take 64 p.bills) (told p.answer) ∷ h) p.after) (sym (posting_not r)) (law_stray h k d _ refl law r)
         go true r = subst (λ p. Accounts (posts d t (take 64 p.bills) (told p.answer) ∷ h) p.after) (sym (posting_held r)) (fit (misfit d s (length bills)) refl r)
 
+    pub billed_between : (t : Trace) → SaidBy t s → (c : ℕ) → (posting k d s bills).answer ≡ Ok c → BilledBetween (last h d) t (posting k d s bills).bills
+    billed_between t by c is q lt =
+        (in_words k d s bills).row c q is lt
+        ∙ ap (λ z. less z (get_or (entry k d).amounts q none)) (by.totals q lt)
+        ∙ ap (λ z. less (amount t q) z) (law.kept d q lt ∙ law.issued_is d q lt)
+
     pub post_known : SlipOut h d → Known (told (posting k d s bills).answer)
     post_known is = subst (λ p. Known (told p.answer)) (sym (posting_held (out_reserved k d h law is))) (by (misfit d s (length bills)) refl)
       where
@@ -93,3 +101,8 @@ module _ (k : Kept) (d : ℕ) (w : Work) (bills : List Amounts) (a : Told ℕ) (
 
   pub post_known_by : (h : History) → Accounts h k → SlipOut h d → Known a
   post_known_by h law is = rw a-is (post_known k d (said w) bills h law is)
+
+-- the bills of a posting that is accepted
+pub between_by : (k : Kept) (d : ℕ) (w : Work) (bills after : List Amounts) (r : Result ℕ PostRefusal) → r ≡ (posting k d (said w) bills).answer → after ≡ (posting k d (said w) bills).bills → (h : History) (t : Trace) → Accounts h k → WorkedBy t w → IfOk r (λ c. BilledBetween (last h d) t after)
+between_by k d w bills after (Ok c) is rows h t law by = rw rows (billed_between k d (said w) bills h law t (said_by t w by) c (sym is))
+between_by k d w bills after (Err e) is rows h t law by = tt

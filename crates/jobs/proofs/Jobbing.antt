@@ -26,12 +26,12 @@ use Rattle.accounts.specs.Histories.{History, Accounts, reserves, withdraws, pos
 use Rattle.jobs.specs.Days.{walked, run_over}
 use Rattle.jobs.specs.Jobs.{rows_of, said_of, Done, job}
 
-length_rows : (n : ℕ) (t : Trace) → length (rows_of n t) ≡ n
+pub length_rows : (n : ℕ) (t : Trace) → length (rows_of n t) ≡ n
 unfolding rows_of
 length_rows zero t = refl
 length_rows (suc n) t = let h = length_rows n t in length-append (rows_of n t) (amount t n ∷ []) ∙ grind arith
 
-row_of : (n q : ℕ) (t : Trace) → q < n → get_or (rows_of n t) q none ≡ amount t q
+pub row_of : (n q : ℕ) (t : Trace) → q < n → get_or (rows_of n t) q none ≡ amount t q
 unfolding rows_of
 row_of zero q t lt = absurd (omega arith)
 row_of (suc n) q t lt =
@@ -85,10 +85,9 @@ module _ (rd : ℤ → ℕ → ℤ) (t : Table) (d : ℕ) (bills : List Amounts)
     unfolding job
     job_posted e o = rw (← e, ← o) refl
 
-    pub posted : fine d ≡ given d (reserving k d).answer → fine tt ≡ (walked t d ws 96).told → us ≡ (walked t d ws 96).warnings → length w.totals ≡ 64 → WorkedBy (run_over d rd 96 t) w → a ≡ post_told (posting m d (said w) bills).answer → l ≡ (posting m d (said w) bills).after → bs ≡ (posting m d (said w) bills).bills → ((h : History) → Accounts h k → Accounts (reserves d (fine d) ∷ h) m) → ((h : History) (z : Trace) → Accounts h m → WorkedBy z w → Accounts (posts d z (take 64 bs) a ∷ h) l) → Comes (job rd t d bills ws k) k a l bs us
-    posted e o u long by a-is l-is b-is law post =
+    pub posted : fine d ≡ given d (reserving k d).answer → fine tt ≡ (walked t d ws 96).told → us ≡ (walked t d ws 96).warnings → said w ≡ said_of (run_over d rd 96 t) → WorkedBy (run_over d rd 96 t) w → a ≡ post_told (posting m d (said w) bills).answer → l ≡ (posting m d (said w) bills).after → bs ≡ (posting m d (said w) bills).bills → ((h : History) → Accounts h k → Accounts (reserves d (fine d) ∷ h) m) → ((h : History) (z : Trace) → Accounts h m → WorkedBy z w → Accounts (posts d z (take 64 bs) a ∷ h) l) → Comes (job rd t d bills ws k) k a l bs us
+    posted e o u s by a-is l-is b-is law post =
         let j = job_posted e o in
-        let s = said_is (run_over d rd 96 t) w by long in
         let p = ap (λ z. posting z d (said w) bills) after ∙ ap (λ z. posting (reserving k d).after d z bills) s in
         rw j (record {
           answer = a-is ∙ ap (λ z. post_told z.answer) p;

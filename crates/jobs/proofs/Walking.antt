@@ -12,7 +12,7 @@ use Rattle.runs.specs.declared.work.Work.{Work}
 use Rattle.runs.specs.Refusals.{numbered}
 use Rattle.runs.specs.Turns.{told as turn_told, is_due, answering, warned, stopping}
 use Rattle.runs.specs.Works.{WorkedBy}
-use Rattle.jobs.specs.Days.{Walk, turn, noted, step, walked, repeated, run_over}
+use Rattle.jobs.specs.Days.{Walk, turn, noted, step_by, step, walked, counted, reached, repeated, run_over}
 
 -- whether it was accepted, and nothing of the value
 abbrev forget : {X : Type 0} → Told X → Told (Unit {0})
@@ -79,6 +79,31 @@ module _ (t : Table) (y : ℕ) (ws : List Warning) where
       let g = walk_stays n k (k + n) e refl h in
       rw next (step_stays (suc (k + n)) (walked t y ws (k + n)) e (ap (λ w. w.told) g ∙ h) ∙ g)
 
+  pub step_from : (i : ℕ) (w : Walk) (a : Told (Unit {0})) → w.told ≡ a → (step t y i w).told ≡ fine tt → w.told ≡ fine tt
+  step_from i w (fine x) is e = is
+  step_from i w (refuse n us) is e = (let f : (step t y i w).told ≡ refuse n us = ap (λ z. (step_by t y i w z).told) is ∙ is in cc)
+
+  -- where the first n intervals end well, they are all worked
+  pub reached_all : (n : ℕ) → (walked t y ws n).told ≡ fine tt → reached t y ws n ≡ n
+  unfolding reached walked
+  reached_all zero e = refl
+  reached_all (suc n) e = rw e (ap suc (reached_all n (step_from (suc n) (walked t y ws n) (walked t y ws n).told refl e)))
+
+  counted_not : (e : IntervalRefusal) (a : Told (Unit {0})) (n : ℕ) → a ≡ numbered e → counted a n ≡ n
+  counted_not Stopped a n h = rw h refl
+  counted_not NotDue a n h = rw h refl
+  counted_not FewRows a n h = rw h refl
+  counted_not (Halted s) a n h = rw h refl
+
+  -- and where the next one is refused, no more are
+  pub reached_stays : (n k m : ℕ) (e : IntervalRefusal) → m ≡ k + suc n → (walked t y ws (suc n)).told ≡ numbered e → reached t y ws m ≡ reached t y ws n
+  unfolding reached
+  reached_stays n zero m e is h = let same : m ≡ suc n = omega arith in ap (reached t y ws) same ∙ counted_not e (walked t y ws (suc n)).told (reached t y ws n) h
+  reached_stays n (suc k) m e is h =
+      let next : m ≡ suc (k + suc n) = omega arith in
+      let g = walk_stays (suc n) (suc k) (suc (k + suc n)) e (omega arith) h in
+      rw next (counted_not e (walked t y ws (suc (k + suc n))).told (reached t y ws (k + suc n)) (ap (λ w. w.told) g ∙ h) ∙ reached_stays n k (k + suc n) e refl h)
+
 pub due_is : (w : Work) (n : ℕ) → w.intervals ≡ n → n < 96 → is_due w (n + 1) ≡ true
 due_is w n e lt = grind arith
 
@@ -110,6 +135,11 @@ module _ (t : Table) (rd : ℤ → ℕ → ℤ) (y n : ℕ) (ws vs us : List War
 
   pub halted : (e : IntervalRefusal) → numbered e ≡ answering rd t b w (n + 1) (length vs) → us ≡ warned t b w (n + 1) vs → walked t y ws (n + 1) ≡ record { told = numbered e; warnings = us }
   halted e said h = next_walked (numbered e) (turn_err rd t w (n + 1) (length vs) due e (said ∙ ap (λ z. answering rd t z w (n + 1) (length vs)) going)) h
+
+  pub reached_here : (e : IntervalRefusal) → walked t y ws (n + 1) ≡ record { told = numbered e; warnings = us } → reached t y ws 96 ≡ n
+  reached_here e off =
+      let on : (walked t y ws (suc n)).told ≡ numbered e = rw (← add-one) (ap (λ z. z.told) off) in
+      reached_stays t y ws n (96 - suc n) 96 e (omega arith) on ∙ reached_all t y ws n (ap (λ z. z.told) so)
 
   pub refused : (e : IntervalRefusal) → numbered e ≡ answering rd t b w (n + 1) (length vs) → us ≡ warned t b w (n + 1) vs → walked t y ws 96 ≡ record { told = numbered e; warnings = us }
   refused e said h =

@@ -1,6 +1,7 @@
 -- All intervals of a day, worked one after the other over one source. Assumes nothing.
 use Rattle.std.specs.Prelude.{ℕ, zero, suc, cond, List, [], ◌∷◌, ◌++◌, length, drop, ℤ, Some, None, Ok, Err, Option, Result, nat_lt}
 use Rattle.terms.specs.Told.{Told, fine, refuse}
+use Rattle.terms.specs.Limits.{last_interval}
 use Rattle.terms.specs.Sources.{Table}
 use Rattle.amounts.specs.Traces.{Trace}
 use Rattle.intervals.specs.declared.fault.Fault.{Fault}
@@ -9,7 +10,6 @@ use Rattle.intervals.specs.Stops.{stop_at}
 use Rattle.intervals.specs.Courses.{course}
 use Rattle.runs.specs.declared.refusal.IntervalRefusal.{IntervalRefusal}
 use Rattle.runs.specs.declared.refusal.IntervalRefusal.TheVariants.{FewRows, Halted}
-use Rattle.runs.specs.declared.sheet.Sheet.{Sheet}
 use Rattle.runs.specs.Refusals.{numbered}
 use Rattle.runs.specs.Works.{traced}
 
@@ -31,7 +31,7 @@ abbrev pub noted : Table → ℕ → ℕ → List Warning → List Warning
 noted t y i ws = cond (nat_lt (length ws) 256) ws ((course t y i).rows ++ drop (length (course t y i).rows) ws)
 
 -- after a refused interval nothing more is worked
-abbrev step_by : Table → ℕ → ℕ → Walk → Told (Unit {0}) → Walk
+abbrev pub step_by : Table → ℕ → ℕ → Walk → Told (Unit {0}) → Walk
 step_by t y i w (fine x) = record { told = turn t y i (length w.warnings); warnings = noted t y i w.warnings }
 step_by t y i w (refuse n vs) = w
 
@@ -53,6 +53,15 @@ unfoldable pub watched : {S : Type 0} → (S → ℕ → List Warning → S) →
 watched tell t y ws s zero = s
 watched tell t y ws s (suc n) = heard tell (suc n) (course t y (suc n)).rows (watched tell t y ws s n) (walked t y ws (suc n)).told
 
+abbrev pub counted : Told (Unit {0}) → ℕ → ℕ
+counted (fine x) n = suc n
+counted (refuse a vs) n = n
+
+-- how many of the first n intervals are worked
+unfoldable pub reached : Table → ℕ → List Warning → ℕ → ℕ
+reached t y ws zero = 0
+reached t y ws (suc n) = counted (walked t y ws (suc n)).told (reached t y ws n)
+
 -- one table for each of n intervals
 unfoldable pub repeated : ℕ → Table → List Table
 repeated zero t = []
@@ -66,6 +75,6 @@ abbrev pub day_told : Result (Unit {0}) IntervalRefusal → Told (Unit {0})
 day_told (Ok x) = fine tt
 day_told (Err e) = numbered e
 
-abbrev pub sheet_told : Result Sheet IntervalRefusal → Told (Unit {0})
-sheet_told (Ok s) = fine tt
-sheet_told (Err e) = numbered e
+-- the trace of a run of day y, as far as its intervals are worked
+abbrev pub run_through : ℕ → (ℤ → ℕ → ℤ) → Table → List Warning → Trace
+run_through y rounded t ws = run_over y rounded (reached t y ws last_interval) t

@@ -1,9 +1,7 @@
 // Whole jobs: a day is reserved, worked over a source, and posted.
 #![tactic(auto)]
 
-mod days;
-pub mod ending;
+pub mod days;
 pub mod job;
-pub mod lists;
 pub mod refusal;
 pub mod watch;

@@ -16,6 +16,7 @@ mod save_fault;
 mod script;
 mod sheet;
 mod show_book;
+mod teller;
 mod words;
 mod work;
 

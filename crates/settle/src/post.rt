@@ -1,38 +1,30 @@
-// `settle post BOOK DAY FILE [--rule away|even] [--fill] [--direct]`
+// `settle post BOOK DAY FILE [--fill] [--direct]`
 use crate::beside::Beside;
 use crate::console::Console;
 use crate::held_book::HeldBook;
-use crate::options::{Options, day_and_options};
-use crate::show_book::seek;
-use amounts::row::Amounts;
-use books::place::Place;
+use crate::options::{Command, Options, day_and_options};
+use crate::teller::Teller;
 use books::refusal::BookRefusal;
-use books::shelf::Shelf;
 use daytable::room::Room;
-use daytable::table::DayTable;
-use filesource::source::FileSource;
-use imagebook::bytes::Image;
 use imagebook::fault::ImageFault;
-use imagebook::opening::{Opened, close};
 use intervals::warning::Warning;
-use jobs::ending::JobEnd;
-use jobs::lists::work_jobs;
 use jobs::refusal::JobRefusal;
-use jobs::watch::Watch;
 use messages::broken::MOST_BYTES;
 use messages::printable::Printable;
 use messages::{broken, stopped, table, unposted};
 use runs::refusal::IntervalRefusal;
 use runs::working::WARNING_ROWS;
-use sources::fill::ZeroFill;
+use settlement::bills::Bills;
+use settlement::dayfile::DayFile;
+use settlement::posting::{Posted, post_file};
+use settlement::reading::Reading;
+use settlement::refusal::Unposted;
 use std::fs::File;
 use std::io;
 use std::rt::{Clock, Files};
-use std::time::Instant;
-use terms::question::ENTITIES;
 use terms::source::Source;
 
-const EXAMPLE: &str = "settle post book.bin 7 day.txt --rule even";
+const EXAMPLE: &str = "settle post book.bin 7 day.txt";
 
 // What is posted where.
 #[derive(Clone, Copy)]
@@ -43,49 +35,9 @@ struct Posting<'a> {
     options: Options,
 }
 
-// What the book had of the day before, and what each entity is billed.
-#[derive(Clone, Copy)]
-struct Bills {
-    before: Place,
-    charged: u32,
-    rows: [Amounts; ENTITIES],
-}
-
-impl Bills {
-    // Whether the day was posted before with the same amounts, as where a call that was cut off at its last line is made again.
-    fn are_repeated(&self) -> bool {
-        self.before.billed && !self.rows.iter().any(|row| table::is_shown(*row))
-    }
-}
-
-// Tells the warnings of each interval, and how far a long run has come. What cannot be printed is kept until the day is through.
-#[derive(Drop)]
-struct Teller<'a, R> {
-    console: Console<'a, R>,
-    start: Option<Instant>,
-    fault: Option<io::Error>,
-}
-
-impl<R: Files<File = File> + Clock + Print + Eprint + AllocGlobal> Teller<'_, R> {
-    fn tell(&self, interval: u32, rows: &[Warning], count: usize) -> io::Result<()> {
-        self.console.say_warnings(rows, count)?;
-        self.console.tell_hour(&self.start, interval);
-        Ok(())
-    }
-}
-
-impl<R: Files<File = File> + Clock + Print + Eprint + AllocGlobal> Watch for Teller<'_, R> {
-    ghost State = { Unit {0} };
-
-    ghost state = { λ w. tt };
-
-    ghost told = { λ s i rows. s };
-
-    fn worked(&mut self, interval: u32, rows: &[Warning], count: usize) {
-        if self.fault.is_none() {
-            self.fault = self.tell(interval, rows, count).err();
-        }
-    }
+// Whether the day was posted before with the same amounts, as where a call that was cut off at its last line is made again.
+fn are_repeated(bills: &Bills) -> bool {
+    bills.before.billed && !bills.rows.iter().any(|row| table::is_shown(*row))
 }
 
 impl<R: Files<File = File> + Clock + Print + Eprint + AllocGlobal> Console<'_, R> {
@@ -98,12 +50,13 @@ impl<R: Files<File = File> + Clock + Print + Eprint + AllocGlobal> Console<'_, R
         file: &str,
         words: &[&str],
     ) -> anyhow::Result<bool> {
-        let (number, options) = match day_and_options(day, words, EXAMPLE) {
+        let (number, read) = match day_and_options(Command::Post, day, words, EXAMPLE) {
             Ok(read) => read,
             Err(fault) => return self.refuse(fault),
         };
+        let options = read.options;
         match u16::try_from(number) {
-            Ok(day) => self.post_file(Posting {
+            Ok(day) => self.post_path(Posting {
                 book,
                 day,
                 file,
@@ -113,45 +66,45 @@ impl<R: Files<File = File> + Clock + Print + Eprint + AllocGlobal> Console<'_, R
         }
     }
 
-    fn post_file(&self, posting: Posting<'_>) -> anyhow::Result<bool> {
+    fn post_path(&self, posting: Posting<'_>) -> anyhow::Result<bool> {
         let path = posting.file;
         let Some(bytes) = self.load(path)? else {
             return Ok(false);
         };
+        let file = DayFile {
+            bytes: &bytes,
+            day: u32::from(posting.day),
+            fill: posting.options.fill,
+        };
         if posting.options.direct {
-            let source = FileSource::new(&bytes);
-            self.say_verdict(path, &bytes, source.verdict())?;
-            self.post_checked(source.verdict().is_ok(), posting, source)
+            self.post_reading(posting, path, &Reading::direct(file))
         } else {
-            let source = DayTable::build(
-                Room::new(self.rt.alloc())?,
-                &bytes,
-                u32::from(posting.day),
-            );
-            self.say_verdict(path, &bytes, source.verdict())?;
-            self.post_checked(source.verdict().is_ok(), posting, source)
+            let room = Room::new(self.rt.alloc())?;
+            self.post_reading(posting, path, &Reading::tabled(room, file))
         }
     }
 
-    // False where the file of the source is refused, and then nothing is posted.
-    fn post_checked<S: Source + Drop>(
+    // False where the file is refused, and then the book is not opened.
+    fn post_reading<S: Source>(
         &self,
-        sound: bool,
         posting: Posting<'_>,
-        source: S,
+        path: &str,
+        reading: &Reading<'_, S>,
     ) -> anyhow::Result<bool> {
-        if !sound {
+        let verdict = reading.verdict();
+        self.say_verdict(path, reading.file.bytes, verdict)?;
+        if verdict.is_err() {
             return Ok(false);
         }
-        if posting.options.fill {
-            self.post_held(posting, ZeroFill { below: source })
-        } else {
-            self.post_held(posting, source)
-        }
+        self.post_held(posting, reading)
     }
 
     // No other call posts to the book from before it is read to the end of the command.
-    fn post_held<S: Source + Drop>(&self, posting: Posting<'_>, source: S) -> anyhow::Result<bool> {
+    fn post_held<S: Source>(
+        &self,
+        posting: Posting<'_>,
+        reading: &Reading<'_, S>,
+    ) -> anyhow::Result<bool> {
         let path = Printable(posting.book);
         let book = match HeldBook::hold(self.rt, posting.book, posting.file) {
             Ok(book) => book,
@@ -162,10 +115,16 @@ impl<R: Files<File = File> + Clock + Print + Eprint + AllocGlobal> Console<'_, R
             Err(e) => return self.refuse(format_args!("{path}: cannot be read: {e}")),
         };
         self.warn_empty(posting.book, &image)?;
-        let (image, bills) = self.post_image(posting, image, source)?;
-        match bills {
-            Some(bills) => self.save(posting, &book, image.as_slice(), &bills),
-            None => Ok(false),
+        let mut rows = vec![in self.rt.alloc(); Warning::default(); WARNING_ROWS]?;
+        let mut teller = Teller::new(*self);
+        let posted = post_file(image, reading, rows.as_mut_slice(), &mut teller);
+        teller.end()?;
+        match posted.answer {
+            Ok(bills) => self.save(posting, &book, posted.book.as_slice(), &bills),
+            Err(refusal) => {
+                self.say_unposted(posting, reading, &posted, rows.as_slice(), refusal)?;
+                Ok(false)
+            }
         }
     }
 
@@ -212,86 +171,33 @@ impl<R: Files<File = File> + Clock + Print + Eprint + AllocGlobal> Console<'_, R
         Ok(true)
     }
 
-    // The image after the posting, and the bills; none where it is not posted, and then the image is as it was. The book is closed whatever
-    // comes of it.
-    fn post_image<S: Source + Drop>(
-        &self,
-        posting: Posting<'_>,
-        image: Vec<u8>,
-        source: S,
-    ) -> anyhow::Result<(Vec<u8>, Option<Bills>)> {
-        let Opened { mut book, fault } = Opened::new(image);
-        let told = match fault {
-            None => self.post_book(posting, &mut book, source),
-            Some(_) => Ok(None),
-        };
-        let image = close(book);
-        let bills = told?;
-        if let Some(fault) = fault {
-            self.say_broken(posting.book, image.as_slice(), fault)?;
-        }
-        Ok((image, bills))
-    }
-
-    fn post_book<S: Source + Drop>(
-        &self,
-        posting: Posting<'_>,
-        book: &mut Shelf<Image>,
-        source: S,
-    ) -> anyhow::Result<Option<Bills>> {
-        let before = seek(book, posting.day);
-        let mut rows = vec![in self.rt.alloc(); Warning::default(); WARNING_ROWS]?;
-        let mut ends = [JobEnd {
-            answer: Ok(0),
-            bills: [Amounts::default(); ENTITIES],
-        }];
-        let mut teller = Teller {
-            console: *self,
-            start: Instant::now(self.rt).ok(),
-            fault: None,
-        };
-        let mut sources = Vec::new(self.rt.alloc());
-        sources.push(source)?;
-        let day = u32::from(posting.day);
-        let rule = posting.options.rule;
-        work_jobs(
-            book,
-            day,
-            rule,
-            sources.as_slice(),
-            rows.as_mut_slice(),
-            &mut ends,
-            &mut teller,
-        );
-        if let Some(fault) = teller.fault {
-            return Err(fault.into());
-        }
-        let [end] = ends;
-        let rows_billed = end.bills;
-        match end.answer {
-            Ok(charged) => Ok(Some(Bills {
-                before,
-                charged,
-                rows: rows_billed,
-            })),
-            Err(refusal) => {
-                self.say_unposted(posting, sources.as_slice(), rows.as_slice(), refusal)?;
-                Ok(None)
-            }
-        }
-    }
-
     fn say_broken(&self, path: &str, bytes: &[u8], fault: ImageFault) -> io::Result<()> {
         let why = broken::Sentence { bytes, fault };
         let path = Printable(path);
         println!(self.rt; "{path}: no book: {why}")
     }
 
-    // Why the day is not posted, and that the book has not changed.
+    // Why the day is not posted; of a file that is refused, the verdict is said already.
     fn say_unposted<S: Source>(
         &self,
         posting: Posting<'_>,
-        sources: &[S],
+        reading: &Reading<'_, S>,
+        posted: &Posted,
+        rows: &[Warning],
+        refusal: Unposted,
+    ) -> io::Result<()> {
+        match refusal {
+            Unposted::File(_) => Ok(()),
+            Unposted::Image(fault) => self.say_broken(posting.book, posted.book.as_slice(), fault),
+            Unposted::Job(refusal) => self.say_no_job(posting, reading, rows, refusal),
+        }
+    }
+
+    // Why the job came to nothing, and that the book has not changed.
+    fn say_no_job<S: Source>(
+        &self,
+        posting: Posting<'_>,
+        source: &Reading<'_, S>,
         rows: &[Warning],
         refusal: JobRefusal,
     ) -> io::Result<()> {
@@ -300,10 +206,8 @@ impl<R: Files<File = File> + Clock + Print + Eprint + AllocGlobal> Console<'_, R
         match refusal {
             JobRefusal::Interval(halt @ IntervalRefusal::Halted(stop)) => {
                 self.say_warnings(rows, stop.warnings)?;
-                if let Some(source) = sources.first() {
-                    let why = stopped::Sentence { source, stop };
-                    self.say_stopped(stop.slot.interval, halt, why)?;
-                }
+                let why = stopped::Sentence { source, stop };
+                self.say_stopped(stop.slot.interval, halt, why)?;
                 println!(self.rt; "{book}: day {day} withdrawn; the book is as it was")
             }
             _ => {
@@ -326,7 +230,7 @@ impl<R: Files<File = File> + Clock + Print + Eprint + AllocGlobal> Console<'_, R
             println!(self.rt; "posted before: nothing")?;
         }
         println!(self.rt; "charged shares: {charged}")?;
-        if bills.are_repeated() {
+        if are_repeated(bills) {
             println!(self.rt; "the book had just these amounts already; every bill is zero")?;
         }
         println!(self.rt; "bills:")?;

@@ -18,7 +18,7 @@ const USAGE: &str = "usage: settle COMMAND
       the amounts of a day worked from a file, as: settle work day.txt 7; --rule even rounds half a cent to the even
       neighbour and not away from zero; --fill takes zero where VSSVARIOL, URLLAG or URLLEAD is null; --direct puts each
       question to the file, which is slow and comes to the same
-  settle post BOOK DAY FILE [--rule away|even] [--fill] [--direct]
+  settle post BOOK DAY FILE [--fill] [--direct]
       a day worked from a file and posted to a book, as: settle post book.bin 7 day.txt; prints what was posted before and
       what each QSE is billed now, and writes the book; where anything is refused, the book is as it was
   settle book new PATH PLACES

@@ -22,7 +22,7 @@ fn count_held(book: &Shelf<Image>) -> usize {
 }
 
 // What a book keeps of a day; no mark and no amounts where it is not held.
-pub(crate) fn seek(book: &Shelf<Image>, day: u16) -> Place {
+fn seek(book: &Shelf<Image>, day: u16) -> Place {
     for index in 0..book.places() {
         if let Some(place) = book.held(index)
             && place.day == day
