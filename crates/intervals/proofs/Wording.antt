@@ -1,6 +1,6 @@
 -- The asking keeps its words: its course is that of its questions, one after the other.
-use Rattle.std.proofs.Common.{◌≡◌, ℕ, zero, suc, Bool, true, false, cond, eqb, ◌&&◌, ◌⊎◌, inl, inr, List, [], ◌∷◌, ◌++◌, map, ℤ, nat_abs, Some, None, Option, sym, refl, ap, ◌∙◌, subst, append_assoc, arith}
-use Rattle.std.specs.List.{All, filter_map, cons_option}
+use Rattle.std.proofs.Common.{◌≡◌, ℕ, zero, suc, ◌+◌, ◌≤◌, Bool, true, false, cond, eqb, ◌&&◌, ◌⊎◌, inl, inr, List, [], ◌∷◌, ◌++◌, length, take, map, ℤ, nat_abs, Some, None, Option, sym, refl, ap, ◌∙◌, subst, append_assoc, arith}
+use Rattle.std.specs.List.{cons_option}
 use Rattle.std.proofs.lemmas.List.{append-nil}
 use Rattle.std.proofs.lemmas.List.Elements.{All-nil, All-cons, All-head, All-tail}
 use Rattle.std.proofs.lemmas.Bool.{eq-eqb, ne_eqb}
@@ -8,7 +8,7 @@ use Rattle.std.proofs.lemmas.Bool.Decides.{eqb_tells}
 use Rattle.terms.specs.declared.answer.Answer.{Answer}
 use Rattle.terms.specs.declared.answer.Answer.TheVariants.{NoCut, Null, Figure}
 use Rattle.terms.specs.declared.determinant.Determinant.{Determinant}
-use Rattle.terms.specs.declared.determinant.Determinant.TheVariants.{Owner, Vssvariol, Urllag, Urllead, Rtvar, Hsl, Lsl, Rtspp, Rthslaiec, Rtvssaiec, Rtmg, Lrs, Vssvarpr}
+use Rattle.terms.specs.declared.determinant.Determinant.TheVariants.{Owner, Vssvariol, Lrs, Vssvarpr}
 use Rattle.terms.specs.declared.determinant.Missing.{Missing as Rule}
 use Rattle.terms.specs.declared.determinant.Missing.TheVariants.{Skip, Zero, Warning as Warns, Stop}
 use Rattle.terms.specs.Determinants.{number_of, missing_of, admitted}
@@ -17,13 +17,14 @@ use Rattle.amounts.specs.Sums.{add_to}
 use Rattle.amounts.specs.Tables.{missing, answer, at}
 use Rattle.amounts.specs.Traces.{entities, resources}
 use Rattle.intervals.specs.declared.fault.Cause.{Cause}
-use Rattle.intervals.specs.declared.fault.Cause.TheVariants.{Missing, OutOfRange, Shares}
+use Rattle.intervals.specs.declared.fault.Cause.TheVariants.{OutOfRange, Shares}
 use Rattle.intervals.specs.declared.fault.Fault.{Fault}
 use Rattle.intervals.specs.declared.judge.Judgement.TheVariants.{Taken, Stopped}
 use Rattle.intervals.specs.declared.warning.Warning.{Warning}
 use Rattle.intervals.specs.Judgements.{wanting, judged}
-use Rattle.intervals.specs.Courses.{Course, clear, halted, fault_at, before, next, opens_hour, hour_of, rows_for, of_resource, judged_at, step, walk, resource, resources_to, shares_to, summed, course}
+use Rattle.intervals.specs.Courses.{Course, clear, halted, fault_at, before, next, opens_hour, hour_of, of_resource, step, walk, resource, resources_to, shares_to, summed, course, warning_rows, in_front, written, after}
 use Rattle.intervals.specs.Words.{Question, about, in_turn, readings, whole_load, cause_missing, cause_by, warned_of, of_one, share_of, questions, cause_of, IsWhole, warning_of, warnings_of, Causeless, FirstCause, Asking}
+use Rattle.intervals.proofs.Rowed.{course_few, written_front, front_rows}
 
 -- ---- one course after another
 next_before : (ws : List Warning) (a b : Course) → next (before ws a) b ≡ before ws (next a b)
@@ -317,3 +318,27 @@ module _ (t : Table) (y i : ℕ) where
     rows_before = λ ps f h. ap (λ c. c.rows) (stopped_course (found_of ps f h));
     rows_all = rows_all;
   }
+
+  -- ---- what the asking leaves of a list with room for the rows
+  pub record Left (ws vs : List Warning) (n : ℕ) (o : Option Fault) : Type 0 where
+    pub words : Asking t y i (record { rows = take n vs; fault = o })
+    pub fault : o ≡ (course t y i).fault
+    pub rows : vs ≡ in_front (course t y i).rows ws
+    pub count : n ≡ length (course t y i).rows
+    pub few : n ≤ warning_rows
+
+  pub left : (ws vs : List Warning) (n : ℕ) (o : Option Fault) → length ws ≡ warning_rows → record { warnings = vs; noted = n; fault = o } ≡ after ws 0 (course t y i) → Left ws vs n o
+  left ws vs n o long e =
+      let few = course_few t y i in
+      let is : vs ≡ written ws 0 (course t y i).rows = ap (λ a. a.warnings) e in
+      let noted : n ≡ 0 + length (course t y i).rows = ap (λ a. a.noted) e in
+      let count : n ≡ length (course t y i).rows = omega arith in
+      let fault : o ≡ (course t y i).fault = ap (λ a. a.fault) e in
+      let r : (course t y i).rows ≡ take n vs = sym (front_rows vs ws (course t y i).rows n (omega arith) is count) in
+      record {
+        words = subst (Asking t y i) (ap (λ rs. ended rs (course t y i).fault) r ∙ ap (ended (take n vs)) (sym fault)) asking;
+        fault = fault;
+        rows = written_front vs ws (course t y i).rows (omega arith) is;
+        count = count;
+        few = omega arith;
+      }
