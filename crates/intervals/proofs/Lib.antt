@@ -7,3 +7,4 @@ pub mod Coursed
 pub mod Loading
 pub mod Settling
 pub mod Rowed
+pub mod Wording

@@ -1,11 +1,12 @@
 -- How many warning rows an interval can have, and where they stand in a list with room for them.
-use Rattle.std.proofs.Common.{◌≡◌, ℕ, zero, suc, ◌+◌, ◌*◌, ◌≤◌, Bool, true, false, cond, eqb, List, [], ◌∷◌, ◌++◌, length, drop, set, ℤ, nat_abs, Some, None, Option, sym, refl, ap, ◌∙◌, append_assoc, arith}
+use Rattle.std.proofs.Common.{◌≡◌, ℕ, zero, suc, ◌+◌, ◌*◌, ◌<◌, ◌≤◌, Bool, true, false, cond, eqb, List, [], ◌∷◌, ◌++◌, length, get_or, take, drop, set, ℤ, nat_abs, Some, None, Option, sym, refl, ap, ◌∙◌, append_assoc, arith}
 use Rattle.std.proofs.lemmas.List.{length-append, length_push, set_at}
+use Rattle.std.proofs.Math.Seq.{take-append_seam}
 use Rattle.std.proofs.lemmas.Bool.{cond_both}
 use Rattle.terms.specs.declared.answer.Answer.{Answer}
 use Rattle.terms.specs.declared.answer.Answer.TheVariants.{NoCut, Null, Figure}
 use Rattle.terms.specs.declared.determinant.Determinant.{Determinant}
-use Rattle.terms.specs.declared.determinant.Determinant.TheVariants.{Lrs, Vssvarpr}
+use Rattle.terms.specs.declared.determinant.Determinant.TheVariants.{Owner, Lrs, Vssvarpr}
 use Rattle.terms.specs.declared.determinant.Missing.{Missing as Rule}
 use Rattle.terms.specs.declared.determinant.Missing.TheVariants.{Skip, Zero, Warning as Warns, Stop}
 use Rattle.terms.specs.Determinants.{missing_of, admitted}
@@ -18,8 +19,8 @@ use Rattle.intervals.specs.declared.judge.Judgement.{Judgement}
 use Rattle.intervals.specs.declared.judge.Judgement.TheVariants.{Taken, Warned, Skipped, Stopped}
 use Rattle.intervals.specs.declared.warning.Warning.{Warning}
 use Rattle.intervals.specs.Judgements.{wanting, judged}
-use Rattle.intervals.specs.Courses.{Course, clear, halted, fault_at, next, rows_for, judged_at, step, walk, of_resource, resource, resources_to, shares_to, summed, course, written}
-use Rattle.intervals.proofs.Walked.{few_rows}
+use Rattle.intervals.specs.Courses.{Course, clear, halted, fault_at, next, rows_for, judged_at, step, walk, of_resource, resource, resources_to, shares_to, summed, course, warning_rows, in_front, written, after}
+use Rattle.intervals.proofs.Walked.{few_rows, walk_here}
 
 -- ---- in a list with room
 front : (ps ws rs : List Warning) → length rs ≤ length ws → written (ps ++ ws) (length ps) rs ≡ ps ++ (rs ++ drop (length rs) ws)
@@ -31,8 +32,11 @@ front ps (v ∷ vs) (r ∷ rs) le =
     let l : length ps + 1 ≡ length p = sym (length_push ps r) in
     ap (λ x. written x (length ps + 1) rs) a ∙ ap (λ k. written (p ++ vs) k rs) l ∙ front p vs rs (omega arith) ∙ append_assoc ps (r ∷ []) (rs ++ drop (length rs) vs)
 
-pub written_front : (ws rs : List Warning) → length rs ≤ length ws → written ws 0 rs ≡ rs ++ drop (length rs) ws
-written_front ws rs le = front [] ws rs le
+pub written_front : (vs ws rs : List Warning) → length rs ≤ length ws → vs ≡ written ws 0 rs → vs ≡ in_front rs ws
+written_front vs ws rs le e = e ∙ front [] ws rs le
+
+pub front_rows : (vs ws rs : List Warning) (n : ℕ) → length rs ≤ length ws → vs ≡ written ws 0 rs → n ≡ length rs → take n vs ≡ rs
+front_rows vs ws rs n le e f = ap (take n) (written_front vs ws rs le e) ∙ ap (λ m. take m (rs ++ drop (length rs) ws)) f ∙ take-append_seam rs (drop (length rs) ws)
 
 -- ---- how many there are
 by_rule : Rule → ℕ
@@ -88,14 +92,29 @@ module _ (t : Table) (y i : ℕ) where
       go h Skipped e = omega arith
       go h (Stopped c) e = omega arith
 
-  resource_few : (u : ℕ) → length (resource t y i u).rows ≤ 2
+  pub resource_few : (u : ℕ) → length (resource t y i u).rows ≤ 2
   unfolding resource of_resource warns_in warns by_rule
   resource_few u = walk_few u of_resource
 
-  resources_few : (n : ℕ) → length (resources_to t y i n).rows ≤ 2 * n
+  pub resources_few : (n : ℕ) → length (resources_to t y i n).rows ≤ 2 * n
   unfolding resources_to
   resources_few zero = omega arith
   resources_few (suc n) = let h = next_few (resources_to t y i n) (resource t y i n) (2 * n) 2 (resources_few n) (resource_few n) in omega arith
+
+  -- a row for the question at hand finds room, where there is room for a Resource's two
+  pub room : (u : ℕ) (ws : List Warning) (n k : ℕ) → k < 11 → (vs : List Warning) (m : ℕ) → after ws n (walk t y i u (drop k of_resource)) ≡ after vs m (resource t y i u) → m + 2 ≤ warning_rows → n + length (rows_for y i u (get_or of_resource k Owner) (judged_at t y i (get_or of_resource k Owner) u)) ≤ warning_rows
+  room u ws n k lt vs m e le =
+      let few = resource_few u in
+      let counts : n + length (walk t y i u (drop k of_resource)).rows ≡ m + length (resource t y i u).rows = ap (λ a. a.noted) e in
+      let here = ap (λ c. length c.rows) (walk_here t y i u ws n k lt) in
+      let own = step_rows u (get_or of_resource k Owner) (judged_at t y i (get_or of_resource k Owner) u) (walk t y i u (drop (k + 1) of_resource)) in
+      omega arith
+    where
+      step_rows : (u : ℕ) (d : Determinant) (j : Judgement) (c : Course) → length (rows_for y i u d j) ≤ length (step t y i u d j c).rows
+      step_rows u d (Taken x) c = omega arith
+      step_rows u d Warned c = let l = length-append (rows_for y i u d Warned) c.rows in omega arith
+      step_rows u d Skipped c = omega arith
+      step_rows u d (Stopped k) c = omega arith
 
   shares_few : (n : ℕ) → length (shares_to t y i n).rows ≤ 0
   unfolding shares_to warns_in warns by_rule

@@ -39,7 +39,7 @@ module _ (t : Table) (y i u : ℕ) where
     here : Determinant
     here = get_or of_resource k Owner
 
-    walk_here : walk t y i u (drop k of_resource) ≡ step t y i u (get_or of_resource k Owner) (judged_at t y i (get_or of_resource k Owner) u) (walk t y i u (drop (k + 1) of_resource))
+    pub walk_here : walk t y i u (drop k of_resource) ≡ step t y i u (get_or of_resource k Owner) (judged_at t y i (get_or of_resource k Owner) u) (walk t y i u (drop (k + 1) of_resource))
     unfolding of_resource
     walk_here = at_drop_more (walk t y i u) of_resource k Owner lt
 

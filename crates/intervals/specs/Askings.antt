@@ -1,5 +1,5 @@
 -- What asking comes to, as the code has it. Assumes nothing.
-use Rattle.std.specs.Prelude.{◌≡◌, ℕ, ◌-◌, ◌*◌, ◌<◌, ◌≤◌, true, false, List, [], ◌∷◌, length, ℤ, pos, Some, None, Ok, Err, Option, Result, ◌≢◌, slice_index, slice_index_or, unsigned_abs}
+use Rattle.std.specs.Prelude.{◌≡◌, ℕ, ◌-◌, ◌*◌, ◌<◌, ◌≤◌, true, false, List, [], ◌∷◌, length, take, ℤ, pos, Some, None, Ok, Err, Option, Result, ◌≢◌, slice_index, slice_index_or, unsigned_abs}
 use Rattle.terms.specs.declared.determinant.Determinant.{Determinant}
 use Rattle.intervals.specs.declared.asking.Asked.{Asked}
 use Rattle.intervals.specs.declared.asking.Figures.{Figures}
@@ -16,12 +16,16 @@ use Rattle.amounts.specs.Traces.{entities}
 use Rattle.intervals.specs.declared.fault.Fault.{Fault}
 use Rattle.intervals.specs.declared.warning.Warning.{Warning}
 use Rattle.terms.specs.Determinants.{number_of, missing_of, admitted}
-use Rattle.intervals.specs.Courses.{clear, halted, judged_at, walk, of_resource, next, shares_to, summed, After}
+use Rattle.intervals.specs.Courses.{Course, clear, halted, judged_at, walk, of_resource, next, shares_to, summed, After}
 use Rattle.amounts.specs.Sums.{add_to}
 
 abbrev pub fault_in : {X : Type 0} → Result X Fault → Option Fault
 fault_in (Ok x) = None
 fault_in (Err f) = Some f
+
+-- the first n rows of a list, and the fault
+abbrev pub course_of : {X : Type 0} → Result X Fault → List Warning → ℕ → Course
+course_of r ws n = record { rows = take n ws; fault = fault_in r }
 
 abbrev pub after_by : {X : Type 0} → List Warning → ℕ → Result X Fault → After
 after_by ws n r = record { warnings = ws; noted = n; fault = fault_in r }

@@ -1,5 +1,5 @@
 -- The course of the asking: which warning rows it writes, and at which question it stops, if at any. Assumes nothing.
-use Rattle.std.specs.Prelude.{ℕ, zero, suc, ◌+◌, ◌/◌, ◌%◌, Bool, cond, List, [], ◌∷◌, ◌++◌, length, Some, None, Option, ◌==◌, slice_set, unsigned_abs}
+use Rattle.std.specs.Prelude.{ℕ, zero, suc, ◌+◌, ◌*◌, ◌/◌, ◌%◌, Bool, cond, List, [], ◌∷◌, ◌++◌, length, drop, Some, None, Option, ◌==◌, slice_set, unsigned_abs}
 use Rattle.terms.specs.declared.determinant.Determinant.{Determinant}
 use Rattle.terms.specs.declared.determinant.Determinant.TheVariants.{Owner, Vssvariol, Urllag, Urllead, Rtvar, Hsl, Lsl, Rtspp, Rthslaiec, Rtvssaiec, Rtmg, Lrs, Vssvarpr}
 use Rattle.terms.specs.Determinants.{number_of}
@@ -47,6 +47,10 @@ hour_of i = (i + 3) / 4
 
 abbrev pub opens_hour : ℕ → Bool
 opens_hour i = i % 4 == 1
+
+-- the most warning rows that an interval may have: two for each Resource
+abbrev pub warning_rows : ℕ
+warning_rows = 2 * resources
 
 -- the determinants of a Resource, in asking order
 unfoldable pub of_resource : List Determinant
@@ -97,7 +101,11 @@ module _ (t : Table) (y i : ℕ) where
   unfoldable pub course : Course
   course = next (walk 0 (Vssvarpr ∷ [])) (next (resources_to resources) (next (shares_to entities) summed))
 
--- rows written one after the other from row n on; past the end of the list nothing is written
+-- rows at the front of a list: they stand there in order, and the other rows as they were
+abbrev pub in_front : List Warning → List Warning → List Warning
+in_front rs ws = rs ++ drop (length rs) ws
+
+-- rows written one after the other from row n on
 abbrev pub written : List Warning → ℕ → List Warning → List Warning
 written ws n [] = ws
 written ws n (r ∷ rs) = written (slice_set ws n r) (n + 1) rs

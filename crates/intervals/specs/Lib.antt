@@ -4,3 +4,4 @@ pub mod Courses
 pub mod Askings
 pub mod Tallies
 pub mod Settlements
+pub mod Words

@@ -1,6 +1,6 @@
 // Asking a source, determinant after determinant.
 ghost use Rattle.std.specs.Prelude.{◌≡◌, ◌+◌, ◌≤◌, length, slice_set};
-ghost use Rattle.intervals.specs.Courses.{judged_at, rows_for, resource, written, after};
+ghost use Rattle.intervals.specs.Courses.{warning_rows, judged_at, rows_for, resource, written, after};
 ghost use Rattle.intervals.specs.Askings.{after_by, Reads, place_of, figure_at, number_at, gathered, asked_of, Asks};
 
 use crate::fault::Fault;
@@ -109,7 +109,7 @@ impl<S: Source> Inquiry<'_, S> {
         resource: u32,
         notes: &mut Notes<'_>,
     ) -> Judgement
-        requires { notes.old.count ≤ 5000 }
+        requires { notes.old.count + length (rows_for self.now.slot.day self.now.slot.interval resource determinant (judged_at (S.Source.table self.now.source.now) self.now.slot.day self.now.slot.interval determinant resource)) ≤ warning_rows }
         ensures judgement { result ≡ judged_at (S.Source.table self.now.source.now) self.now.slot.day self.now.slot.interval determinant resource }
         ensures same { notes.new.rows.ghost_name ≡ notes.old.rows.ghost_name }
         ensures count { notes.new.count ≡ notes.old.count + length (rows_for self.now.slot.day self.now.slot.interval resource determinant result) }
@@ -129,10 +129,9 @@ impl<S: Source> Inquiry<'_, S> {
 
     // What the determinants of one Resource give, in asking order; none where it is passed over.
     fn figures(&self, unit: u32, notes: &mut Notes<'_>) -> Result<Option<Figures>, Fault>
-        requires { notes.old.count ≤ 4000 }
+        requires { notes.old.count + 2 ≤ warning_rows }
         ensures same { notes.new.rows.ghost_name ≡ notes.old.rows.ghost_name }
         ensures course { after_by notes.new.rows.now notes.new.count result ≡ after notes.old.rows.now notes.old.count (resource (S.Source.table self.now.source.now) self.now.slot.day self.now.slot.interval unit) }
-        ensures few { notes.new.count ≤ notes.old.count + 11 }
         ensures reads { Reads (S.Source.table self.now.source.now) self.now.slot.day self.now.slot.interval unit result }
     {
         let mut figures = Figures { places: [None; 13] };
@@ -150,10 +149,9 @@ impl<S: Source> Inquiry<'_, S> {
 
     // Asks for a Resource; none where it is passed over.
     pub(crate) fn resource(&self, unit: u32, notes: &mut Notes<'_>) -> Result<Option<Asked>, Fault>
-        requires { notes.old.count ≤ 4000 }
+        requires { notes.old.count + 2 ≤ warning_rows }
         ensures same { notes.new.rows.ghost_name ≡ notes.old.rows.ghost_name }
         ensures course { after_by notes.new.rows.now notes.new.count result ≡ after notes.old.rows.now notes.old.count (resource (S.Source.table self.now.source.now) self.now.slot.day self.now.slot.interval unit) }
-        ensures few { notes.new.count ≤ notes.old.count + 11 }
         ensures asks { Asks (S.Source.table self.now.source.now) self.now.slot.day self.now.slot.interval unit result }
     {
         let figures = self.figures(unit, notes)?;

@@ -7,6 +7,7 @@ mod charging;
 pub mod fault;
 pub mod interval;
 pub mod judge;
+pub mod laws;
 mod notes;
 mod paying;
 mod shares;

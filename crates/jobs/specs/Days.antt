@@ -1,5 +1,5 @@
 -- All intervals of a day, worked one after the other over one source. Assumes nothing.
-use Rattle.std.specs.Prelude.{ℕ, zero, suc, cond, List, [], ◌∷◌, ◌++◌, length, drop, ℤ, Some, None, Ok, Err, Option, Result, nat_lt}
+use Rattle.std.specs.Prelude.{ℕ, zero, suc, cond, List, [], ◌∷◌, length, ℤ, Some, None, Ok, Err, Option, Result, nat_lt}
 use Rattle.terms.specs.Told.{Told, fine, refuse}
 use Rattle.terms.specs.Limits.{last_interval}
 use Rattle.terms.specs.Sources.{Table}
@@ -7,7 +7,7 @@ use Rattle.amounts.specs.Traces.{Trace}
 use Rattle.intervals.specs.declared.fault.Fault.{Fault}
 use Rattle.intervals.specs.declared.warning.Warning.{Warning}
 use Rattle.intervals.specs.Stops.{stop_at}
-use Rattle.intervals.specs.Courses.{course}
+use Rattle.intervals.specs.Courses.{warning_rows, course, in_front}
 use Rattle.runs.specs.declared.refusal.IntervalRefusal.{IntervalRefusal}
 use Rattle.runs.specs.declared.refusal.IntervalRefusal.TheVariants.{FewRows, Halted}
 use Rattle.runs.specs.Refusals.{numbered}
@@ -24,11 +24,11 @@ told_by y i n (Some f) = numbered (Halted (stop_at y i n f))
 
 -- what the interval that is due ends with: it is refused where the list has too few rows, and where something that is asked stops the run
 abbrev pub turn : Table → ℕ → ℕ → ℕ → Told (Unit {0})
-turn t y i rows = cond (nat_lt rows 256) (numbered FewRows) (told_by y i (length (course t y i).rows) (course t y i).fault)
+turn t y i rows = cond (nat_lt rows warning_rows) (numbered FewRows) (told_by y i (length (course t y i).rows) (course t y i).fault)
 
 -- its warning rows stand in front of the list, and the others stay
 abbrev pub noted : Table → ℕ → ℕ → List Warning → List Warning
-noted t y i ws = cond (nat_lt (length ws) 256) ws ((course t y i).rows ++ drop (length (course t y i).rows) ws)
+noted t y i ws = cond (nat_lt (length ws) warning_rows) ws (in_front (course t y i).rows ws)
 
 -- after a refused interval nothing more is worked
 abbrev pub step_by : Table → ℕ → ℕ → Walk → Told (Unit {0}) → Walk

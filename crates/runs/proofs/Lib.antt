@@ -2,3 +2,4 @@ pub mod Adding
 pub mod Growing
 pub mod Turning
 pub mod Totalling
+pub mod Wording

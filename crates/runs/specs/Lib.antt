@@ -4,3 +4,4 @@ pub mod Works
 pub mod Days
 pub mod Turns
 pub mod Totals
+pub mod Words

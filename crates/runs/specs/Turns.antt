@@ -1,5 +1,5 @@
 -- One call for an interval: what it answers and what it leaves. Assumes nothing.
-use Rattle.std.specs.Prelude.{◌≡◌, ℕ, ◌+◌, Bool, true, cond, ◌&&◌, List, ◌∷◌, ◌++◌, length, drop, ℤ, Some, None, Ok, Err, Option, Result, ◌==◌, nat_lt}
+use Rattle.std.specs.Prelude.{◌≡◌, ℕ, ◌+◌, Bool, true, cond, ◌&&◌, List, ◌∷◌, length, ℤ, Some, None, Ok, Err, Option, Result, ◌==◌, nat_lt}
 use Rattle.terms.specs.Told.{Told, fine}
 use Rattle.terms.specs.Sources.{Table}
 use Rattle.terms.specs.Limits.{last_interval}
@@ -10,7 +10,7 @@ use Rattle.intervals.specs.declared.fault.Fault.{Fault}
 use Rattle.intervals.specs.declared.interval.Worked.{Worked}
 use Rattle.intervals.specs.declared.warning.Warning.{Warning}
 use Rattle.intervals.specs.Stops.{stop_at}
-use Rattle.intervals.specs.Courses.{course}
+use Rattle.intervals.specs.Courses.{course, warning_rows, in_front}
 use Rattle.runs.specs.declared.refusal.IntervalRefusal.{IntervalRefusal}
 use Rattle.runs.specs.declared.refusal.IntervalRefusal.TheVariants.{Stopped, NotDue, FewRows, Halted}
 use Rattle.runs.specs.declared.work.Work.{Work}
@@ -27,7 +27,7 @@ is_due w i = nat_lt w.intervals last_interval && i == w.intervals + 1
 
 -- why nothing is asked: in checking order, for a run that has stopped or not, an interval, and a list of so many rows
 abbrev pub barred : Bool → Work → ℕ → ℕ → Option IntervalRefusal
-barred stopped w i rows = cond stopped (Some Stopped) (cond (is_due w i) (cond (nat_lt rows 256) (Some FewRows) None) (Some NotDue))
+barred stopped w i rows = cond stopped (Some Stopped) (cond (is_due w i) (cond (nat_lt rows warning_rows) (Some FewRows) None) (Some NotDue))
 
 module _ (rounded : ℤ → ℕ → ℤ) (t : Table) where
   -- what a settled interval answers
@@ -52,7 +52,7 @@ module _ (rounded : ℤ → ℕ → ℤ) (t : Table) where
   answering stopped w i rows = answer_at w.day i (barred stopped w i rows)
 
 abbrev warned_at : Table → ℕ → ℕ → List Warning → Option IntervalRefusal → List Warning
-warned_at t y i ws None = (course t y i).rows ++ drop (length (course t y i).rows) ws
+warned_at t y i ws None = in_front (course t y i).rows ws
 warned_at t y i ws (Some e) = ws
 
 -- the list of warnings after a call: the rows written stand in front, the others as they were

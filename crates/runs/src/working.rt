@@ -1,10 +1,12 @@
 // Opening a run, working its intervals, closing it.
-ghost use Rattle.std.specs.Prelude.{◌≡◌, ℕ, ◌*◌, ◌≤◌, false, List, [], length, slice_index_or, unsigned_abs};
+ghost use Rattle.std.specs.Prelude.{◌≡◌, ℕ, ◌*◌, ◌≤◌, true, false, List, [], length, slice_index_or, unsigned_abs};
 ghost use Rattle.terms.specs.Sources.{Table};
 ghost use Rattle.amounts.specs.Sums.{sum_to};
 ghost use Rattle.amounts.specs.Triples.{none, net};
 ghost use Rattle.amounts.specs.Traces.{Trace};
+ghost use Rattle.runs.specs.declared.refusal.IntervalRefusal.TheVariants.{Halted};
 ghost use Rattle.runs.specs.Works.{WorkedBy, traced};
+ghost use Rattle.runs.specs.Words.{Turn};
 ghost use Rattle.runs.specs.Turns.{told, answering, warned, stopping, Moves, extended};
 
 use crate::day::RunDay;
@@ -12,15 +14,14 @@ use crate::refusal::IntervalRefusal;
 use crate::run::Run;
 use crate::sheet::Sheet;
 use crate::work::Work;
+use intervals::fault::Stop;
 pub use intervals::interval::Worked;
 use intervals::interval::work_interval;
+pub use intervals::warning::WARNING_ROWS;
 use intervals::warning::Warning;
 use rounding::rule::Rounding;
 use terms::question::Slot;
 use terms::source::Source;
-
-// The rows that a list of warnings must have: two for each Resource.
-pub const WARNING_ROWS: usize = 256;
 
 impl<R: Rounding> Run<R> {
     // Opens a run of a day under a rule: nothing is worked yet.
@@ -37,14 +38,28 @@ impl<R: Rounding> Run<R> {
         }
     }
 
+    // Stops the run for good.
+    fn halt(&mut self, stop: Stop) -> IntervalRefusal
+        ensures refusal { result ≡ Halted stop }
+        ensures stopped { self.new.stopped ≡ true }
+        ensures rule { self.new.rule ≡ self.old.rule }
+        ensures work { self.new.work ≡ self.old.work }
+    {
+        self.stopped = true;
+        IntervalRefusal::Halted(stop)
+    }
+
     // Works an interval over a source. An accepted one is added to the totals; a refused one leaves them and the interval due, and
-    // where something asked for is missing or out of range, it stops the run.
+    // where something asked for is missing or out of range, it stops the run. The list has at least `WARNING_ROWS` rows; those written
+    // stand at its front.
+    #[tactic(auto, using(crate::proofs::Turning::stop_told))]
     pub fn interval<S: Source>(
         &mut self,
         source: &S,
         interval: u32,
         warnings: &mut [Warning],
     ) -> Result<Worked, IntervalRefusal>
+        ensures words { Turn (S.Source.table source.now) self.old.stopped self.old.work interval warnings.old warnings.new result }
         ensures answer { told result ≡ answering (R.Rounding.rounded self.old.rule) (S.Source.table source.now) self.old.stopped self.old.work interval (length warnings.old) }
         ensures warnings { warnings.new ≡ warned (S.Source.table source.now) self.old.stopped self.old.work interval warnings.old }
         ensures rule { self.new.rule ≡ self.old.rule }
@@ -58,22 +73,19 @@ impl<R: Rounding> Run<R> {
         if !self.work.is_due(interval) {
             return Err(IntervalRefusal::NotDue);
         }
-        if warnings.len() < WARNING_ROWS {
+        let Some(rows) = warnings.first_chunk_mut::<WARNING_ROWS>() else {
             return Err(IntervalRefusal::FewRows);
-        }
+        };
         let slot = Slot {
             day: self.work.day,
             interval,
         };
-        match work_interval(&self.rule, source, slot, warnings) {
+        match work_interval(&self.rule, source, slot, rows) {
             Ok(settled) => {
                 self.work.enter(&settled);
                 Ok(settled.worked)
             }
-            Err(stop) => {
-                self.stopped = true;
-                Err(IntervalRefusal::Halted(stop))
-            }
+            Err(stop) => Err(self.halt(stop)),
         }
     }
 }

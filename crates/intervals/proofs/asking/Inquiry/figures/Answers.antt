@@ -1,11 +1,11 @@
-use Rattle.std.proofs.Common.{◌≡◌, ◌+◌, get_or, set, Some, sym, refl, ap, ◌∙◌, subst, arith, rules, w64, SFits}
+use Rattle.std.proofs.Common.{◌≡◌, ◌+◌, set, Some, sym, refl, ap, ◌∙◌, subst, arith, rules, w64, SFits}
 use Rattle.std.proofs.lemmas.Int.{to_z-of_z}
 use Rattle.std.proofs.lemmas.List.{length-set}
-use Rattle.terms.specs.declared.determinant.Determinant.TheVariants.{Owner}
 use Rattle.terms.specs.Sources.{Table}
 use Rattle.intervals.specs.Courses.{after, of_resource}
 use Rattle.intervals.specs.Askings.{held_as, Kept}
-use Rattle.intervals.proofs.Walked.{walk_whole, walk_ends, few_rows, kept_more, place_is}
+use Rattle.intervals.proofs.Walked.{walk_whole, walk_ends, kept_more, place_is}
+use Rattle.intervals.proofs.Rowed.{room}
 use Rattle.intervals.proofs.Resourced.{here, goes_on, passes, stops, passed_at}
 use Rattle.intervals.proofs.asking.Inquiry.figures.Goals.{in-Taken, in-Warned}
 use Rattle.intervals.proofs.asking.Inquiry.figures.Goals as goal
@@ -15,9 +15,16 @@ loop-determinant-init g c = record {
   same = refl;
   course = ap (after _ _) (sym (walk_whole _ _ _ _));
   kept = λ k lt. absurd (omega arith);
-  few = omega arith;
   long = refl;
 }
+
+pub judge_noting-requires : goal.judge_noting-requires
+unfolding of_resource
+judge_noting-requires g c =
+    let t : Table = g.S.Source.table c.args.self.now.source.now in
+    let slot = c.args.self.now.slot in
+    let now = c.loop-determinant in
+    room t slot.day slot.interval c.args.unit now.notes.rows.now now.notes.count now.determinant-index c.loop-determinant-test.true _ _ now.invariant.course c.requires
 
 pub returns-in-Skipped-clause-course : goal.returns-in-Skipped-clause-course
 unfolding of_resource
@@ -61,14 +68,12 @@ loop-determinant-preserved g c =
       | in-Taken w ↦ (let fits : SFits w64 w.in-Taken.figure = search rules in w.in-Taken.is ∙ ap held_as (sym (w.figure-is ∙ ap Some (to_z-of_z w64 w.in-Taken.figure fits))))
       | in-Warned w ↦ w.in-Warned.is ∙ ap held_as (sym w.figure-is)
     ] in
-    let few = few_rows slot.day slot.interval c.args.unit (get_or of_resource k Owner) c.judge_noting.result in
     let put : c.put.new.self.places ≡ set now.figures.places k c.match-judge_noting.figure = c.put.ensures ∙ ap (λ j. set now.figures.places j c.match-judge_noting.figure) (place_is k lt) in
     let put_here = here t slot.day slot.interval c.args.unit now.notes.rows.now now.notes.count k lt _ refl c.judge_noting.result said.judgement in
     record {
       same = said.same ∙ now.invariant.same;
       course = goes_on t slot.day slot.interval c.args.unit now.notes.rows.now now.notes.count k lt _ refl c.judge_noting.result said.judgement _ _ said.count said.rows c.match-judge_noting.figure held ∙ now.invariant.course;
       kept = subst (λ xs. Kept t slot.day slot.interval c.args.unit (k + 1) xs) (sym put) (kept_more t slot.day slot.interval c.args.unit now.notes.rows.now now.notes.count k lt now.figures.places c.match-judge_noting.figure now.invariant.long (put_here ∙ held) now.invariant.kept);
-      few = let a = said.count in let b = now.invariant.few in omega (arith, few);
       long = rw put (length-set now.figures.places k c.match-judge_noting.figure ∙ now.invariant.long);
     }
 
