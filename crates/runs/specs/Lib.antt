@@ -4,3 +4,6 @@ pub mod Works
 pub mod Days
 pub mod Turns
 pub mod Totals
+pub mod Sheets
+pub mod Calls
+pub mod Example
