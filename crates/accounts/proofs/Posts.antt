@@ -6,10 +6,10 @@ use Rattle.amounts.specs.declared.row.Amounts.{Amounts}
 use Rattle.amounts.specs.Triples.{none}
 use Rattle.amounts.specs.Traces.{Trace, amount, shares, Accepted}
 use Rattle.runs.specs.declared.work.Work.{Work}
-use Rattle.runs.specs.Works.{WorkedBy}
+use Rattle.runs.specs.Works.{WorkedBy, FaultlessOver}
 use Rattle.runs.specs.Calls.{RunCalls, progress, trace_of}
 use Rattle.runs.specs.Sheets.{Said, said, said_of}
-use Rattle.runs.proofs.Asking.{judged_over}
+use Rattle.runs.proofs.Asking.{complete_over, judged_over}
 use Rattle.runs.proofs.Calling.{faultless}
 use Rattle.runs.proofs.Saying.{row_of}
 use Rattle.books.specs.Kept.{Kept, entry, put}
@@ -32,10 +32,11 @@ pub record SaidBy (t : Trace) (s : Said) : Type 0 where
   pub intervals : s.intervals ≡ length t.tables
   pub totals : (q : ℕ) → q < 64 → get_or s.totals q none ≡ amount t q
   pub charged : s.charged ≡ shares t
+  pub faultless : FaultlessOver t.day t.tables
   pub accepted : Accepted t
 
 pub said_by : (t : Trace) (w : Work) → WorkedBy t w → SaidBy t (said w)
-said_by t w by = record { day = by.day; intervals = by.intervals; totals = by.totals; charged = by.charged; accepted = by.accepted }
+said_by t w by = record { day = by.day; intervals = by.intervals; totals = by.totals; charged = by.charged; faultless = by.faultless; accepted = by.accepted }
 
 -- the sheet that a run of calls ends in
 pub said_by_calls : (r : RunCalls) → SaidBy (trace_of r) (said_of (trace_of r))
@@ -46,6 +47,7 @@ said_by_calls r =
       intervals = refl;
       totals = λ q lt. row_of 64 q (trace_of r) lt;
       charged = refl;
+      faultless = never;
       accepted = record { lawful = r.lawful; judged = judged_over r.day (progress r.day r.calls).tables never };
     }
 
@@ -85,7 +87,7 @@ module _ (k : Kept) (d : ℕ) (s : Said) (bills : List Amounts) where
         law_settled h k _ d (settled d s.totals) _ t s.charged _ refl law
         (λ q lt. get_or-take 64 _ q none lt ∙ row_billed 64 q s.totals (entry k d).amounts bills f.room lt ∙ ap (λ z. less z (get_or (entry k d).amounts q none)) (by.totals q lt))
         (put_changes k d (settled d s.totals) refl) was refl refl by.totals by.charged
-        (record { same = sym by.day ∙ f.day; long = rw (← by.intervals) f.long; accepted = by.accepted })
+        (record { same = sym by.day ∙ f.day; long = rw (← by.intervals) f.long; faultless = by.faultless; complete = complete_over t.day t.tables by.faultless; accepted = by.accepted })
 
     -- where the day is in range if it is reserved
     pub reserved_law : Rising k.held → ((entry k d).reserved ≡ true → d ≤ last_day) → (t : Trace) → SaidBy t s → Accounts (posts d t (take 64 (posting k d s bills).bills) (told (posting k d s bills).answer) ∷ h) (posting k d s bills).after
