@@ -1,5 +1,6 @@
 -- The law of accounts is kept by each call, over the definitions that the contracts name.
 use Rattle.std.proofs.Common.{◌≡◌, ℕ, ◌≤◌, Bool, true, false, ◌∷◌, Ok, Err, Result, IfOk, refl, sym, ◌∙◌, subst, arith}
+use Rattle.std.proofs.lemmas.Bool.Decides.{nat_tests}
 use Rattle.terms.specs.Told.{Told, fine}
 use Rattle.terms.specs.Limits.{last_day}
 use Rattle.amounts.specs.Triples.{none}
@@ -18,19 +19,20 @@ use Rattle.accounts.specs.Histories.{Event, History, Accounts, Latest, never, ru
 use Rattle.accounts.proofs.Effects.{law_nothing, law_gave, law_took, law_stray}
 
 -- a reservation that is accepted
-record Given (k : Kept) (d : ℕ) : Type 0 where
+pub record Given (k : Kept) (d : ℕ) : Type 0 where
+  pub within : d ≤ last_day
   pub was : (entry k d).reserved ≡ false
   pub after : (reserving k d).after ≡ put k (marked (entry k d) true (entry k d).billed)
 
-given_by : (k : Kept) (d : ℕ) → (reserving k d).answer ≡ Ok tt → Given k d
+pub given_by : (k : Kept) (d : ℕ) → (reserving k d).answer ≡ Ok tt → Given k d
 unfolding reserving
-given_by k d h = record { was = grind arith; after = grind arith }
+given_by k d h = record { within = grind (arith, nat_tests); was = grind arith; after = grind arith }
 
 not_given : (k : Kept) (d : ℕ) (e : BookRefusal) → (reserving k d).answer ≡ Err e → (reserving k d).after ≡ k
 unfolding reserving
 not_given k d e h = grind arith
 
-reserves_nothing : (d : ℕ) (e : BookRefusal) → effect (reserves d (numbered e)) ≡ nothing
+pub reserves_nothing : (d : ℕ) (e : BookRefusal) → effect (reserves d (numbered e)) ≡ nothing
 reserves_nothing d OutOfRange = refl
 reserves_nothing d Reserved = refl
 reserves_nothing d Full = refl
@@ -69,23 +71,23 @@ module _ (k : Kept) (d : ℕ) where
   unfolding lifting
   lifted_cut l r b = grind arith
 
--- a slip was taken and the day lifted as unbilled, where it was reserved
-module _ (k : Kept) (d : ℕ) (h : History) (e : Event) (takes : effect e ≡ took d) (rising : Rising k.held) (within : d ≤ last_day) (law : Accounts h k) where
+-- a slip was taken and the day lifted as unbilled, where it was reserved, and so in range
+module _ (k : Kept) (d : ℕ) (h : History) (e : Event) (takes : effect e ≡ took d) (rising : Rising k.held) (within : (entry k d).reserved ≡ true → d ≤ last_day) (law : Accounts h k) where
   pub lift_law : Accounts (e ∷ h) (lifting k d false).after
   lift_law = go (entry k d).reserved (entry k d).billed refl refl
     where
       go : (r b : Bool) → (entry k d).reserved ≡ r → (entry k d).billed ≡ b → Accounts (e ∷ h) (lifting k d false).after
       go false b r-is b-is = subst (λ l. Accounts (e ∷ h) l) (sym (lifted_not k d r-is)) (law_stray h k d e takes law r-is)
       go true true r-is b-is =
-          subst (λ l. Accounts (e ∷ h) l) (sym (lifted_billed k d within r-is b-is))
+          subst (λ l. Accounts (e ∷ h) l) (sym (lifted_billed k d (within r-is) r-is b-is))
           (law_took h k _ d (marked (entry k d) false true) e law (put_changes k d _ (entry_day d k.held)) takes r-is refl (sym b-is ∙ law.marked d) (λ q lt. law.kept d q lt))
       go true false r-is b-is =
-          subst (λ l. Accounts (e ∷ h) l) (sym (lifted_cut k d within r-is b-is))
+          subst (λ l. Accounts (e ∷ h) l) (sym (lifted_cut k d (within r-is) r-is b-is))
           (law_took h k _ d (blank d) e law (cut_changes k d rising) takes r-is refl (sym b-is ∙ law.marked d)
           (λ q lt. zeros_none q ∙ sym (law.issued_is d q lt ∙ no_run (last h d) q (sym (law.marked d) ∙ b-is))))
 
 pub withdraw_law : (k : Kept) (d : ℕ) (h : History) → Rising k.held → d ≤ last_day → Accounts h k → Accounts (withdraws d (told (lifting k d false).answer) ∷ h) (lifting k d false).after
-withdraw_law k d h rising within law = lift_law k d h _ refl rising within law
+withdraw_law k d h rising within law = lift_law k d h _ refl rising (λ r. within) law
 
 -- a slip that is out is of a reserved day
 pub out_reserved : (k : Kept) (d : ℕ) (h : History) → Accounts h k → SlipOut h d → (entry k d).reserved ≡ true

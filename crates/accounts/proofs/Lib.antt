@@ -4,4 +4,5 @@ pub mod Keeping
 pub mod Posts
 pub mod Overlays
 pub mod Calling
+pub mod Exampled
 pub mod Wording

@@ -6,14 +6,19 @@ use Rattle.amounts.specs.declared.row.Amounts.{Amounts}
 use Rattle.amounts.specs.Triples.{none}
 use Rattle.amounts.specs.Traces.{Trace, amount, shares, Accepted}
 use Rattle.runs.specs.declared.work.Work.{Work}
-use Rattle.runs.specs.Works.{WorkedBy}
+use Rattle.runs.specs.Works.{WorkedBy, FaultlessOver}
+use Rattle.runs.specs.Calls.{RunCalls, progress, trace_of}
+use Rattle.runs.specs.Sheets.{Said, said, said_of}
+use Rattle.runs.proofs.Asking.{complete_over, judged_over}
+use Rattle.runs.proofs.Calling.{faultless}
+use Rattle.runs.proofs.Saying.{row_of}
 use Rattle.books.specs.Kept.{Kept, entry, put}
 use Rattle.books.specs.Laws.{Rising}
 use Rattle.books.proofs.Entries.{put_changes}
 use Rattle.accounts.specs.declared.refusal.PostRefusal.{PostRefusal}
 use Rattle.accounts.specs.declared.refusal.PostRefusal.TheVariants.{NotReserved, OtherDay, TooShort, FewRows}
 use Rattle.accounts.specs.Refusals.{numbered, told}
-use Rattle.accounts.specs.Postings.{Said, said, posting, posted_by, misfit, settled, less, billed}
+use Rattle.accounts.specs.Postings.{posting, posted_by, misfit, settled, less, billed}
 use Rattle.accounts.specs.Histories.{History, Accounts, effect, took, posts, last, SlipOut, Known}
 use Rattle.accounts.specs.Bills.{BilledBetween}
 use Rattle.accounts.proofs.Billing.{row_billed}
@@ -27,10 +32,24 @@ pub record SaidBy (t : Trace) (s : Said) : Type 0 where
   pub intervals : s.intervals ≡ length t.tables
   pub totals : (q : ℕ) → q < 64 → get_or s.totals q none ≡ amount t q
   pub charged : s.charged ≡ shares t
+  pub faultless : FaultlessOver t.day t.tables
   pub accepted : Accepted t
 
 pub said_by : (t : Trace) (w : Work) → WorkedBy t w → SaidBy t (said w)
-said_by t w by = record { day = by.day; intervals = by.intervals; totals = by.totals; charged = by.charged; accepted = by.accepted }
+said_by t w by = record { day = by.day; intervals = by.intervals; totals = by.totals; charged = by.charged; faultless = by.faultless; accepted = by.accepted }
+
+-- the sheet that a run of calls ends in
+pub said_by_calls : (r : RunCalls) → SaidBy (trace_of r) (said_of (trace_of r))
+said_by_calls r =
+    let never = faultless r.day r.calls in
+    record {
+      day = refl;
+      intervals = refl;
+      totals = λ q lt. row_of 64 q (trace_of r) lt;
+      charged = refl;
+      faultless = never;
+      accepted = record { lawful = r.lawful; judged = judged_over r.day (progress r.day r.calls).tables never };
+    }
 
 -- a sheet that fits
 record Fits (d : ℕ) (s : Said) (rows : ℕ) : Type 0 where
@@ -41,7 +60,7 @@ record Fits (d : ℕ) (s : Said) (rows : ℕ) : Type 0 where
 fits_by : (d : ℕ) (s : Said) (rows : ℕ) → misfit d s rows ≡ None → Fits d s rows
 fits_by d s rows h = record { day = grind arith; long = grind arith; room = grind arith }
 
-refused_takes : (d : ℕ) (t : Trace) (bills : List Amounts) (e : PostRefusal) → effect (posts d t bills (numbered e)) ≡ took d
+pub refused_takes : (d : ℕ) (t : Trace) (bills : List Amounts) (e : PostRefusal) → effect (posts d t bills (numbered e)) ≡ took d
 refused_takes d t bills NotReserved = refl
 refused_takes d t bills OtherDay = refl
 refused_takes d t bills TooShort = refl
@@ -68,10 +87,11 @@ module _ (k : Kept) (d : ℕ) (s : Said) (bills : List Amounts) where
         law_settled h k _ d (settled d s.totals) _ t s.charged _ refl law
         (λ q lt. get_or-take 64 _ q none lt ∙ row_billed 64 q s.totals (entry k d).amounts bills f.room lt ∙ ap (λ z. less z (get_or (entry k d).amounts q none)) (by.totals q lt))
         (put_changes k d (settled d s.totals) refl) was refl refl by.totals by.charged
-        (record { same = sym by.day ∙ f.day; long = rw (← by.intervals) f.long; accepted = by.accepted })
+        (record { same = sym by.day ∙ f.day; long = rw (← by.intervals) f.long; faultless = by.faultless; complete = complete_over t.day t.tables by.faultless; accepted = by.accepted })
 
-    pub post_law : Rising k.held → d ≤ last_day → (t : Trace) → SaidBy t s → Accounts (posts d t (take 64 (posting k d s bills).bills) (told (posting k d s bills).answer) ∷ h) (posting k d s bills).after
-    post_law rising within t by = go (entry k d).reserved refl
+    -- where the day is in range if it is reserved
+    pub reserved_law : Rising k.held → ((entry k d).reserved ≡ true → d ≤ last_day) → (t : Trace) → SaidBy t s → Accounts (posts d t (take 64 (posting k d s bills).bills) (told (posting k d s bills).answer) ∷ h) (posting k d s bills).after
+    reserved_law rising within t by = go (entry k d).reserved refl
       where
         fit : (m : Option PostRefusal) → misfit d s (length bills) ≡ m → (entry k d).reserved ≡ true → Accounts (posts d t (take 64 (posted_by k d s bills m).bills) (told (posted_by k d s bills m).answer) ∷ h) (posted_by k d s bills m).after
         fit (Some e) is r = lift_law k d h _ (refused_takes d t (take 64 bills) e) rising within law
@@ -80,6 +100,9 @@ module _ (k : Kept) (d : ℕ) (s : Said) (bills : List Amounts) where
         go : (r : Bool) → (entry k d).reserved ≡ r → Accounts (posts d t (take 64 (posting k d s bills).bills) (told (posting k d s bills).answer) ∷ h) (posting k d s bills).after
         go false r = subst (λ p. Accounts (posts d t (take 64 p.bills) (told p.answer) ∷ h) p.after) (sym (posting_not r)) (law_stray h k d _ refl law r)
         go true r = subst (λ p. Accounts (posts d t (take 64 p.bills) (told p.answer) ∷ h) p.after) (sym (posting_held r)) (fit (misfit d s (length bills)) refl r)
+
+    pub post_law : Rising k.held → d ≤ last_day → (t : Trace) → SaidBy t s → Accounts (posts d t (take 64 (posting k d s bills).bills) (told (posting k d s bills).answer) ∷ h) (posting k d s bills).after
+    post_law rising within t by = reserved_law rising (λ r. within) t by
 
     pub billed_between : (t : Trace) → SaidBy t s → (c : ℕ) → (posting k d s bills).answer ≡ Ok c → BilledBetween (last h d) t (posting k d s bills).bills
     billed_between t by c is q lt =

@@ -6,6 +6,7 @@ use Rattle.amounts.specs.declared.row.Amounts.{Amounts}
 use Rattle.amounts.specs.Sums.{sum_to}
 use Rattle.amounts.specs.Triples.{none, plus, net}
 use Rattle.amounts.specs.Traces.{Trace, amount, shares, Accepted}
+use Rattle.runs.specs.Works.{FaultlessOver, CompleteOver}
 use Rattle.books.specs.Kept.{Kept, entry}
 
 -- each call with its day and its answer; a posting also with the trace of the run whose sheet it took, and the bill rows after it
@@ -93,10 +94,13 @@ abbrev pub is_run : Latest → Bool
 is_run never = false
 is_run (run t) = true
 
--- a run of that day over all its intervals, each accepted, under a rule that keeps its law
+-- a run of that day over all its intervals: at none of them did a source stop the asking, and all that each needed was there and in its range,
+-- owners being codes of entities; under a rule that keeps its law
 pub record Whole (d : ℕ) (t : Trace) : Type 0 where
   pub same : t.day ≡ d
   pub long : last_interval ≤ length t.tables
+  pub faultless : FaultlessOver t.day t.tables
+  pub complete : CompleteOver t.day t.tables
   pub accepted : Accepted t
 
 abbrev pub WholeBy : ℕ → Latest → Type 0

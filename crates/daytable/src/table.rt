@@ -26,12 +26,14 @@ pub struct DayTable {
 impl DayTable {
     ghost use Rattle.std.specs.Prelude.{cond, ◌==◌};
     ghost use Rattle.terms.specs.declared.answer.Answer.TheVariants.{NoCut};
-    ghost use Rattle.detfile.specs.Files.{judged};
+    ghost use Rattle.detfile.specs.Files.{judged, checked};
+    ghost use Rattle.detfile.specs.Refusals.{told};
     ghost use Rattle.filesource.specs.Asks.{asked};
 
     // Checks a file and takes in what it says of the day, in one pass: each line is checked and taken in at once, and each number of the
     // day is written once, or 96 times where the line is for every interval. The bytes may be let go afterwards.
     pub fn build(room: Room, bytes: &[u8], day: u32) -> DayTable
+        ensures answer { told result.verdict ≡ checked bytes.now }
         ensures verdict { result.verdict ≡ judged bytes.now }
         ensures table { (d u y i : ℕ) → tabled result.day result.cuts.items d u y i ≡ cond (y == day) (asked bytes.now d u y i) NoCut }
     {
@@ -42,7 +44,8 @@ impl DayTable {
 
     // How many value lines the file has, or why it is refused.
     pub fn verdict(&self) -> Result<u32, FileRefusal>
-        ensures { result ≡ self.now.verdict }
+        ensures answer { told result ≡ told self.now.verdict }
+        ensures value { result ≡ self.now.verdict }
     {
         self.verdict
     }
@@ -56,7 +59,9 @@ impl Source for DayTable {
     ghost laws = { tabled_laws (λ s. s.day) (λ s. s.cuts.items) (λ s. s.sized) };
 
     // Looks at one place, whatever the size of the file.
-    fn ask(&self, question: Question) -> Answer {
+    fn ask(&self, question: Question) -> Answer
+        ensures table { result ≡ tabled self.now.day self.now.cuts.items question.determinant question.unit question.day question.interval }
+    {
         if !question.is_inside() || question.day != self.day {
             return Answer::NoCut;
         }

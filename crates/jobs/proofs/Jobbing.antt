@@ -1,19 +1,16 @@
 -- How a job ends.
-use Rattle.std.proofs.Common.{◌≡◌, ℕ, zero, suc, ◌<◌, ◌≢◌, false, List, [], ◌∷◌, ◌++◌, length, take, get_or, ℤ, inl, inr, refl, sym, ap, ◌∙◌, subst, arith, length-append}
-use Rattle.std.proofs.lemmas.Bool.{cases_eq}
-use Rattle.std.proofs.lemmas.List.{ext_get_or, get_or_append_left}
-use Rattle.std.proofs.Math.Seq.{get_or-append_seam}
+use Rattle.std.proofs.Common.{◌≡◌, ℕ, false, List, [], ◌∷◌, ◌++◌, take, ℤ, refl, ap, ◌∙◌}
 use Rattle.terms.specs.Told.{Told, fine}
 use Rattle.terms.specs.Sources.{Table}
 use Rattle.amounts.specs.declared.row.Amounts.{Amounts}
-use Rattle.amounts.specs.Triples.{none}
-use Rattle.amounts.specs.Traces.{Trace, amount, shares}
+use Rattle.amounts.specs.Traces.{Trace}
 use Rattle.intervals.specs.declared.warning.Warning.{Warning}
 use Rattle.runs.specs.declared.refusal.IntervalRefusal.{IntervalRefusal}
 use Rattle.runs.specs.declared.refusal.IntervalRefusal.TheVariants.{Stopped, NotDue, FewRows, Halted}
 use Rattle.runs.specs.declared.work.Work.{Work}
 use Rattle.runs.specs.Refusals.{numbered as interval_numbered}
 use Rattle.runs.specs.Works.{WorkedBy}
+use Rattle.runs.specs.Sheets.{said, said_of}
 use Rattle.books.specs.declared.refusal.BookRefusal.{BookRefusal}
 use Rattle.books.specs.declared.refusal.BookRefusal.TheVariants.{OutOfRange, Reserved, Full, NotReserved}
 use Rattle.books.specs.Kept.{Kept}
@@ -21,35 +18,10 @@ use Rattle.books.specs.Calls.{reserving, lifting}
 use Rattle.books.specs.Refusals.{numbered as book_numbered, told as book_told}
 use Rattle.accounts.specs.Refusals.{told as post_told}
 use Rattle.accounts.specs.Slips.{given}
-use Rattle.accounts.specs.Postings.{said, posting}
+use Rattle.accounts.specs.Postings.{posting}
 use Rattle.accounts.specs.Histories.{History, Accounts, reserves, withdraws, posts}
 use Rattle.jobs.specs.Days.{walked, run_over}
-use Rattle.jobs.specs.Jobs.{rows_of, said_of, Done, job}
-
-pub length_rows : (n : ℕ) (t : Trace) → length (rows_of n t) ≡ n
-unfolding rows_of
-length_rows zero t = refl
-length_rows (suc n) t = let h = length_rows n t in length-append (rows_of n t) (amount t n ∷ []) ∙ grind arith
-
-pub row_of : (n q : ℕ) (t : Trace) → q < n → get_or (rows_of n t) q none ≡ amount t q
-unfolding rows_of
-row_of zero q t lt = absurd (omega arith)
-row_of (suc n) q t lt =
-    let l = length_rows n t in
-    elim (cases_eq q n) [
-      | inl is ↦ rw is (subst (λ z. get_or (rows_of n t ++ (amount t n ∷ [])) z none ≡ amount t n) l (get_or-append_seam (rows_of n t) (amount t n) [] none))
-      | inr ne ↦ (let below : q < n = (let g : q ≢ n = ne in omega arith) in get_or_append_left (rows_of n t) (amount t n ∷ []) none q (rw l below) ∙ row_of n q t below)
-    ]
-
--- a sheet says what the formulas give over its run's trace
-pub said_is : (t : Trace) (w : Work) → WorkedBy t w → length w.totals ≡ 64 → said w ≡ said_of t
-said_is t w by long =
-    let rows = length_rows 64 t in
-    let totals : w.totals ≡ rows_of 64 t = ext_get_or none w.totals (rows_of 64 t) (long ∙ sym rows) (λ q lt. let few : q < 64 = omega arith in by.totals q few ∙ sym (row_of 64 q t few)) in
-    ap (λ x. record { day = x; intervals = w.intervals; charged = w.charged; totals = w.totals }) by.day
-    ∙ ap (λ x. record { day = t.day; intervals = x; charged = w.charged; totals = w.totals }) by.intervals
-    ∙ ap (λ x. record { day = t.day; intervals = length t.tables; charged = x; totals = w.totals }) by.charged
-    ∙ ap (λ x. record { day = t.day; intervals = length t.tables; charged = shares t; totals = x }) totals
+use Rattle.jobs.specs.Jobs.{Done, job}
 
 -- what a job comes to: its answer, what the book keeps after it, the bills and the warnings are those of the definition, and so is the law's history
 pub record Comes (j : Done) (k : Kept) (a : Told ℕ) (l : Kept) (bs : List Amounts) (us : List Warning) : Type 0 where

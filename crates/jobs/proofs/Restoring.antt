@@ -16,7 +16,8 @@ use Rattle.accounts.specs.declared.refusal.PostRefusal.{PostRefusal}
 use Rattle.accounts.specs.declared.refusal.PostRefusal.TheVariants.{NotReserved as NoReservation, OtherDay, TooShort, FewRows}
 use Rattle.accounts.specs.Refusals.{numbered as post_numbered, told as post_told}
 use Rattle.accounts.specs.Slips.{given}
-use Rattle.accounts.specs.Postings.{Said, posting}
+use Rattle.runs.specs.Sheets.{Said}
+use Rattle.accounts.specs.Postings.{posting}
 use Rattle.accounts.proofs.Keeping.{slip_day}
 
 -- a held day that is put over, and then put back

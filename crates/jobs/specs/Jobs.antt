@@ -1,28 +1,20 @@
 -- A job: a day is reserved, worked over a source, and posted. Assumes nothing.
-use Rattle.std.specs.Prelude.{ℕ, zero, suc, false, List, [], ◌∷◌, ◌++◌, length, take, ℤ}
+use Rattle.std.specs.Prelude.{ℕ, false, List, [], ◌∷◌, take, ℤ}
 use Rattle.terms.specs.Told.{Told, fine, refuse}
 use Rattle.terms.specs.Sources.{Table}
 use Rattle.terms.specs.Limits.{last_interval}
 use Rattle.amounts.specs.declared.row.Amounts.{Amounts}
-use Rattle.amounts.specs.Traces.{Trace, amount, shares, entities}
+use Rattle.amounts.specs.Traces.{entities}
 use Rattle.intervals.specs.declared.warning.Warning.{Warning}
+use Rattle.runs.specs.Sheets.{said_of}
 use Rattle.books.specs.Kept.{Kept}
 use Rattle.books.specs.Calls.{reserving, lifting}
 use Rattle.books.specs.Refusals.{told as book_told}
 use Rattle.accounts.specs.Refusals.{told as post_told}
 use Rattle.accounts.specs.Slips.{given}
-use Rattle.accounts.specs.Postings.{Said, posting}
+use Rattle.accounts.specs.Postings.{posting}
 use Rattle.accounts.specs.Histories.{History, reserves, withdraws, posts}
 use Rattle.jobs.specs.Days.{walked, watched, run_over}
-
--- the first n entities' amounts by the formulas
-unfoldable pub rows_of : ℕ → Trace → List Amounts
-rows_of zero t = []
-rows_of (suc n) t = rows_of n t ++ (amount t n ∷ [])
-
--- what the sheet of a run says, by the formulas over the run's trace
-abbrev pub said_of : Trace → Said
-said_of t = record { day = t.day; intervals = length t.tables; charged = shares t; totals = rows_of entities t }
 
 -- a job's answer, what is kept after it, the bill rows and the list of warnings after it, and what was called on the book, the newest call first
 pub record Done : Type 0 where

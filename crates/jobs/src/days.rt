@@ -1,10 +1,9 @@
 // Working all intervals of a day over one source.
 ghost use Rattle.std.specs.Prelude.{◌≡◌, false, []};
 ghost use Rattle.terms.specs.Limits.{last_interval};
+ghost use Rattle.runs.specs.Sheets.{said, said_of};
 ghost use Rattle.runs.specs.Works.{WorkedBy, traced};
-ghost use Rattle.accounts.specs.Postings.{said};
 ghost use Rattle.jobs.specs.Days.{walked, watched, run_through, day_told};
-ghost use Rattle.jobs.specs.Jobs.{said_of};
 
 use crate::watch::Watch;
 use intervals::warning::Warning;

@@ -21,4 +21,4 @@ number_of e = answer_number (numbered e)
 
 -- what a rule answers, by the table of its results
 abbrev pub rounding : (ℤ → ℕ → ℤ) → ℤ → ℕ → Told ℤ
-rounding rounded n d = cond (within n d) (fine (rounded n d)) (refuse 6 [])
+rounding rounded n d = cond (within n d) (fine (rounded n d)) (numbered OutOfRange)

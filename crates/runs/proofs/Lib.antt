@@ -3,3 +3,7 @@ pub mod Growing
 pub mod Turning
 pub mod Totalling
 pub mod Wording
+pub mod Calling
+pub mod Saying
+pub mod Asking
+pub mod Exampled

@@ -1,9 +1,10 @@
 -- The check of a run's day. Assumes nothing.
-use Rattle.std.specs.Prelude.{ℕ, cond, [], Ok, Err, Result, nat_le}
-use Rattle.terms.specs.Told.{Told, fine, refuse}
+use Rattle.std.specs.Prelude.{ℕ, cond, Ok, Err, Result, nat_le}
+use Rattle.terms.specs.Told.{Told, fine}
 use Rattle.terms.specs.Limits.{last_day}
 use Rattle.runs.specs.declared.day.RunDay.{RunDay}
 use Rattle.runs.specs.declared.refusal.DayRefusal.{DayRefusal}
+use Rattle.runs.specs.declared.refusal.DayRefusal.TheVariants.{OutOfRange}
 use Rattle.runs.specs.Refusals.{day_numbered}
 
 -- the day, or the refusal
@@ -12,4 +13,4 @@ day_told (Ok d) = fine d.day
 day_told (Err e) = day_numbered e
 
 abbrev pub checking : ℕ → Told ℕ
-checking y = cond (nat_le y last_day) (fine y) (refuse 7 [])
+checking y = cond (nat_le y last_day) (fine y) (day_numbered OutOfRange)

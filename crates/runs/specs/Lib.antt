@@ -5,3 +5,6 @@ pub mod Days
 pub mod Turns
 pub mod Totals
 pub mod Words
+pub mod Sheets
+pub mod Calls
+pub mod Example

@@ -21,13 +21,19 @@ abbrev pub told : Result Worked IntervalRefusal → Told Worked
 told (Ok x) = fine x
 told (Err e) = numbered e
 
--- the interval is the next one; after the last none is
-abbrev pub is_due : Work → ℕ → Bool
-is_due w i = nat_lt w.intervals last_interval && i == w.intervals + 1
+-- the interval is the next one after n are worked; after the last none is
+abbrev pub follows : ℕ → ℕ → Bool
+follows n i = nat_lt n last_interval && i == n + 1
 
--- why nothing is asked: in checking order, for a run that has stopped or not, an interval, and a list of so many rows
+abbrev pub is_due : Work → ℕ → Bool
+is_due w i = follows w.intervals i
+
+-- why nothing is asked: in checking order, for a run that has stopped or not, with n intervals worked, an interval, and a list of so many rows
+abbrev pub barred_after : Bool → ℕ → ℕ → ℕ → Option IntervalRefusal
+barred_after stopped n i rows = cond stopped (Some Stopped) (cond (follows n i) (cond (nat_lt rows warning_rows) (Some FewRows) None) (Some NotDue))
+
 abbrev pub barred : Bool → Work → ℕ → ℕ → Option IntervalRefusal
-barred stopped w i rows = cond stopped (Some Stopped) (cond (is_due w i) (cond (nat_lt rows warning_rows) (Some FewRows) None) (Some NotDue))
+barred stopped w i rows = barred_after stopped w.intervals i rows
 
 module _ (rounded : ℤ → ℕ → ℤ) (t : Table) where
   -- what a settled interval answers

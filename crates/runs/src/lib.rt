@@ -3,6 +3,7 @@
 
 pub mod day;
 mod entering;
+pub mod laws;
 pub mod opening;
 pub mod refusal;
 pub mod run;

@@ -7,6 +7,7 @@ ghost use Rattle.amounts.specs.Traces.{Trace};
 ghost use Rattle.runs.specs.declared.refusal.IntervalRefusal.TheVariants.{Halted};
 ghost use Rattle.runs.specs.Works.{WorkedBy, traced};
 ghost use Rattle.runs.specs.Words.{Turn};
+ghost use Rattle.runs.specs.Sheets.{said, said_of};
 ghost use Rattle.runs.specs.Turns.{told, answering, warned, stopping, Moves, extended};
 
 use crate::day::RunDay;
@@ -95,6 +96,7 @@ impl<R: Rounding + Drop> Run<R> {
     pub fn close(self) -> Sheet
         ensures work { result.work ≡ self.work }
         ensures law { (t : Trace) → WorkedBy t self.work → WorkedBy t result.work }
+        ensures said { (t : Trace) → WorkedBy t self.work → said result.work ≡ said_of t }
         ensures balanced { 2 * unsigned_abs (sum_to 64 (λ q. net (slice_index_or result.work.totals q none))) ≤ result.work.charged }
     {
         let Run {

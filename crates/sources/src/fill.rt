@@ -29,7 +29,9 @@ impl<S: Source> Source for ZeroFill<S> {
 
     ghost laws = { filled_laws (λ s. s.below) S.Source.laws };
 
-    fn ask(&self, question: Question) -> Answer {
+    fn ask(&self, question: Question) -> Answer
+        ensures table { result ≡ filled question.determinant (S.Source.table self.now.below question.determinant question.unit question.day question.interval) }
+    {
         zero_filled(question.determinant, self.below.ask(question))
     }
 }

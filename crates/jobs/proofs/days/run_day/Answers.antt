@@ -1,9 +1,7 @@
-use Rattle.std.proofs.Common.{rules}
-use Rattle.jobs.proofs.Jobbing.{said_is}
 use Rattle.jobs.proofs.days.run_day.Goals as goal
 
 pub returns-clause-sheet : goal.returns-clause-sheet
 returns-clause-sheet g c =
     let run = c.open-run.ensures in
     let law = simp (run.rule, run.law.day) at c.work_intervals-ended.ensures.law in
-    said_is _ c.close.result.work (c.close.ensures.law _ law) (search rules)
+    c.close.ensures.said _ law

@@ -1,0 +1,5 @@
+use Rattle.runs.proofs.Asking.{complete, complete_over}
+use Rattle.runs.proofs.laws.asking_law.Goals as goal
+
+pub returns : goal.returns
+returns c = record { interval = complete; run = complete_over }
