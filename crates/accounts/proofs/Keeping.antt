@@ -16,7 +16,7 @@ use Rattle.books.proofs.Sounds.{zeros_none}
 use Rattle.accounts.specs.declared.slip.Slip.{Slip}
 use Rattle.accounts.specs.Slips.{told as slip_told, given}
 use Rattle.accounts.specs.Histories.{Event, History, Accounts, Latest, never, run, effect, nothing, took, reserves, withdraws, last, amount_by, is_run, SlipOut, Known}
-use Rattle.accounts.proofs.Effects.{law_nothing, law_gave, law_took, law_stray}
+use Rattle.accounts.proofs.Effects.{out_by_kept, law_nothing, law_gave, law_took, law_stray}
 
 -- a reservation that is accepted
 pub record Given (k : Kept) (d : ℕ) : Type 0 where
@@ -46,12 +46,12 @@ module _ (k : Kept) (d : ℕ) (h : History) (law : Accounts h k) where
       go (Ok x) is =
           let g = given_by k d is in
           subst (λ l. Accounts (reserves d (fine d) ∷ h) l) (sym g.after)
-          (law_gave h k _ d (marked (entry k d) true (entry k d).billed) (reserves d (fine d)) law (put_changes k d _ (entry_day d k.held)) refl g.was refl refl refl)
+          (law_gave h k _ d (marked (entry k d) true (entry k d).billed) (reserves d (fine d)) law (put_changes k d _ (entry_day d k.held)) refl g.within g.was refl refl refl)
       go (Err e) is = subst (λ l. Accounts (reserves d (numbered e) ∷ h) l) (sym (not_given k d e is)) (law_nothing h k (reserves d (numbered e)) (reserves_nothing d e) law)
 
   -- the slip that a reservation gives is the only one of its day
   pub reserve_out : (reserving k d).answer ≡ Ok tt → SlipOut (reserves d (fine d) ∷ h) d
-  reserve_out is = let w = (given_by k d is).was in let a = law.slip_out d in grind arith
+  reserve_out is = let w = (given_by k d is).was in let a = out_by_kept h k law d in grind arith
 
 no_run : (l : Latest) (q : ℕ) → is_run l ≡ false → amount_by l q ≡ none
 no_run never q e = refl
@@ -71,27 +71,27 @@ module _ (k : Kept) (d : ℕ) where
   unfolding lifting
   lifted_cut l r b = grind arith
 
--- a slip was taken and the day lifted as unbilled, where it was reserved, and so in range
-module _ (k : Kept) (d : ℕ) (h : History) (e : Event) (takes : effect e ≡ took d) (rising : Rising k.held) (within : (entry k d).reserved ≡ true → d ≤ last_day) (law : Accounts h k) where
+-- a slip was taken and the day lifted as unbilled, where it was reserved
+module _ (k : Kept) (d : ℕ) (h : History) (e : Event) (takes : effect e ≡ took d) (rising : Rising k.held) (law : Accounts h k) where
   pub lift_law : Accounts (e ∷ h) (lifting k d false).after
   lift_law = go (entry k d).reserved (entry k d).billed refl refl
     where
       go : (r b : Bool) → (entry k d).reserved ≡ r → (entry k d).billed ≡ b → Accounts (e ∷ h) (lifting k d false).after
       go false b r-is b-is = subst (λ l. Accounts (e ∷ h) l) (sym (lifted_not k d r-is)) (law_stray h k d e takes law r-is)
       go true true r-is b-is =
-          subst (λ l. Accounts (e ∷ h) l) (sym (lifted_billed k d (within r-is) r-is b-is))
+          subst (λ l. Accounts (e ∷ h) l) (sym (lifted_billed k d (law.within d r-is) r-is b-is))
           (law_took h k _ d (marked (entry k d) false true) e law (put_changes k d _ (entry_day d k.held)) takes r-is refl (sym b-is ∙ law.marked d) (λ q lt. law.kept d q lt))
       go true false r-is b-is =
-          subst (λ l. Accounts (e ∷ h) l) (sym (lifted_cut k d (within r-is) r-is b-is))
+          subst (λ l. Accounts (e ∷ h) l) (sym (lifted_cut k d (law.within d r-is) r-is b-is))
           (law_took h k _ d (blank d) e law (cut_changes k d rising) takes r-is refl (sym b-is ∙ law.marked d)
           (λ q lt. zeros_none q ∙ sym (law.issued_is d q lt ∙ no_run (last h d) q (sym (law.marked d) ∙ b-is))))
 
-pub withdraw_law : (k : Kept) (d : ℕ) (h : History) → Rising k.held → d ≤ last_day → Accounts h k → Accounts (withdraws d (told (lifting k d false).answer) ∷ h) (lifting k d false).after
-withdraw_law k d h rising within law = lift_law k d h _ refl rising (λ r. within) law
+pub withdraw_law : (k : Kept) (d : ℕ) (h : History) → Rising k.held → Accounts h k → Accounts (withdraws d (told (lifting k d false).answer) ∷ h) (lifting k d false).after
+withdraw_law k d h rising law = lift_law k d h _ refl rising law
 
 -- a slip that is out is of a reserved day
 pub out_reserved : (k : Kept) (d : ℕ) (h : History) → Accounts h k → SlipOut h d → (entry k d).reserved ≡ true
-out_reserved k d h law is = let a = law.slip_out d in grind arith
+out_reserved k d h law is = let a = out_by_kept h k law d in grind arith
 
 pub withdraw_known : (k : Kept) (d : ℕ) (h : History) → d ≤ last_day → Accounts h k → SlipOut h d → Known (told (lifting k d false).answer)
 unfolding lifting
@@ -101,8 +101,8 @@ withdraw_known k d h within law is = let r = out_reserved k d h law is in grind 
 pub reserve_by : (k l : Kept) (d : ℕ) (a : Told ℕ) → a ≡ given d (reserving k d).answer → l ≡ (reserving k d).after → (h : History) → Accounts h k → Accounts (reserves d a ∷ h) l
 reserve_by k l d a a-is l-is h law = rw (a-is, l-is) (reserve_law k d h law)
 
-pub withdraw_by : (k l : Kept) (d : ℕ) (a : Told (Unit {0})) → a ≡ told (lifting k d false).answer → l ≡ (lifting k d false).after → Rising k.held → d ≤ last_day → (h : History) → Accounts h k → Accounts (withdraws d a ∷ h) l
-withdraw_by k l d a a-is l-is rising within h law = rw (a-is, l-is) (withdraw_law k d h rising within law)
+pub withdraw_by : (k l : Kept) (d : ℕ) (a : Told (Unit {0})) → a ≡ told (lifting k d false).answer → l ≡ (lifting k d false).after → Rising k.held → (h : History) → Accounts h k → Accounts (withdraws d a ∷ h) l
+withdraw_by k l d a a-is l-is rising h law = rw (a-is, l-is) (withdraw_law k d h rising law)
 
 pub withdraw_known_by : (k : Kept) (d : ℕ) (a : Told (Unit {0})) → a ≡ told (lifting k d false).answer → d ≤ last_day → (h : History) → Accounts h k → SlipOut h d → Known a
 withdraw_known_by k d a a-is within h law is = rw a-is (withdraw_known k d h within law is)

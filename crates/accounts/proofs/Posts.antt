@@ -1,7 +1,7 @@
 -- The law of accounts is kept by a posting.
 use Rattle.std.proofs.Common.{◌≡◌, ℕ, ◌<◌, ◌≤◌, Bool, true, false, List, ◌∷◌, length, take, get_or, Ok, Err, Result, IfOk, Some, None, Option, refl, sym, ap, ◌∙◌, subst, arith, get_or-take}
 use Rattle.terms.specs.Told.{Told, fine}
-use Rattle.terms.specs.Limits.{last_day, last_interval}
+use Rattle.terms.specs.Limits.{last_interval}
 use Rattle.amounts.specs.declared.row.Amounts.{Amounts}
 use Rattle.amounts.specs.Triples.{none}
 use Rattle.amounts.specs.Traces.{Trace, amount, shares, Accepted}
@@ -89,20 +89,16 @@ module _ (k : Kept) (d : ℕ) (s : Said) (bills : List Amounts) where
         (put_changes k d (settled d s.totals) refl) was refl refl by.totals by.charged
         (record { same = sym by.day ∙ f.day; long = rw (← by.intervals) f.long; faultless = by.faultless; complete = complete_over t.day t.tables by.faultless; accepted = by.accepted })
 
-    -- where the day is in range if it is reserved
-    pub reserved_law : Rising k.held → ((entry k d).reserved ≡ true → d ≤ last_day) → (t : Trace) → SaidBy t s → Accounts (posts d t (take 64 (posting k d s bills).bills) (told (posting k d s bills).answer) ∷ h) (posting k d s bills).after
-    reserved_law rising within t by = go (entry k d).reserved refl
+    pub post_law : Rising k.held → (t : Trace) → SaidBy t s → Accounts (posts d t (take 64 (posting k d s bills).bills) (told (posting k d s bills).answer) ∷ h) (posting k d s bills).after
+    post_law rising t by = go (entry k d).reserved refl
       where
         fit : (m : Option PostRefusal) → misfit d s (length bills) ≡ m → (entry k d).reserved ≡ true → Accounts (posts d t (take 64 (posted_by k d s bills m).bills) (told (posted_by k d s bills m).answer) ∷ h) (posted_by k d s bills m).after
-        fit (Some e) is r = lift_law k d h _ (refused_takes d t (take 64 bills) e) rising within law
+        fit (Some e) is r = lift_law k d h _ (refused_takes d t (take 64 bills) e) rising law
         fit None is r = settled_law t by r (fits_by d s (length bills) is)
 
         go : (r : Bool) → (entry k d).reserved ≡ r → Accounts (posts d t (take 64 (posting k d s bills).bills) (told (posting k d s bills).answer) ∷ h) (posting k d s bills).after
         go false r = subst (λ p. Accounts (posts d t (take 64 p.bills) (told p.answer) ∷ h) p.after) (sym (posting_not r)) (law_stray h k d _ refl law r)
         go true r = subst (λ p. Accounts (posts d t (take 64 p.bills) (told p.answer) ∷ h) p.after) (sym (posting_held r)) (fit (misfit d s (length bills)) refl r)
-
-    pub post_law : Rising k.held → d ≤ last_day → (t : Trace) → SaidBy t s → Accounts (posts d t (take 64 (posting k d s bills).bills) (told (posting k d s bills).answer) ∷ h) (posting k d s bills).after
-    post_law rising within t by = reserved_law rising (λ r. within) t by
 
     pub billed_between : (t : Trace) → SaidBy t s → (c : ℕ) → (posting k d s bills).answer ≡ Ok c → BilledBetween (last h d) t (posting k d s bills).bills
     billed_between t by c is q lt =
@@ -119,8 +115,8 @@ module _ (k : Kept) (d : ℕ) (s : Said) (bills : List Amounts) where
 
 -- the same where the answer, what is kept and the bills are known by equations
 module _ (k : Kept) (d : ℕ) (w : Work) (bills : List Amounts) (a : Told ℕ) (a-is : a ≡ told (posting k d (said w) bills).answer) where
-  pub post_by : (l : Kept) (after : List Amounts) → l ≡ (posting k d (said w) bills).after → after ≡ (posting k d (said w) bills).bills → Rising k.held → d ≤ last_day → (h : History) (t : Trace) → Accounts h k → WorkedBy t w → Accounts (posts d t (take 64 after) a ∷ h) l
-  post_by l after l-is b-is rising within h t law by = rw (a-is, l-is, b-is) (post_law k d (said w) bills h law rising within t (said_by t w by))
+  pub post_by : (l : Kept) (after : List Amounts) → l ≡ (posting k d (said w) bills).after → after ≡ (posting k d (said w) bills).bills → Rising k.held → (h : History) (t : Trace) → Accounts h k → WorkedBy t w → Accounts (posts d t (take 64 after) a ∷ h) l
+  post_by l after l-is b-is rising h t law by = rw (a-is, l-is, b-is) (post_law k d (said w) bills h law rising t (said_by t w by))
 
   pub post_known_by : (h : History) → Accounts h k → SlipOut h d → Known a
   post_known_by h law is = rw a-is (post_known k d (said w) bills h law is)

@@ -1,13 +1,16 @@
 -- What was called on a book and how it ended, the newest call first, and what it comes to. Assumes nothing.
-use Rattle.std.specs.Prelude.{◌≡◌, ℕ, suc, ◌-◌, ◌*◌, ◌<◌, ◌≤◌, Bool, true, false, cond, List, [], ◌∷◌, length, ◌==◌, slice_index_or, unsigned_abs}
+use Rattle.std.specs.Prelude.{◌≡◌, ℕ, suc, ◌-◌, ◌*◌, ◌<◌, ◌≤◌, Bool, true, false, cond, List, [], ◌∷◌, length, Ok, Err, Result, ◌==◌, slice_index_or, unsigned_abs}
 use Rattle.terms.specs.Told.{Told, fine, refuse}
-use Rattle.terms.specs.Limits.{last_interval}
+use Rattle.terms.specs.Limits.{last_day, last_interval}
 use Rattle.amounts.specs.declared.row.Amounts.{Amounts}
 use Rattle.amounts.specs.Sums.{sum_to}
 use Rattle.amounts.specs.Triples.{none, plus, net}
 use Rattle.amounts.specs.Traces.{Trace, amount, shares, Accepted}
 use Rattle.runs.specs.Works.{FaultlessOver, CompleteOver}
+use Rattle.books.specs.declared.account.Account.{Account}
+use Rattle.books.specs.declared.refusal.BookRefusal.{BookRefusal}
 use Rattle.books.specs.Kept.{Kept, entry}
+use Rattle.books.specs.Calls.{reading}
 
 -- each call with its day and its answer; a posting also with the trace of the run whose sheet it took, and the bill rows after it
 pub data Event : Type 0 where
@@ -39,7 +42,7 @@ out_by (gave e) d n = cond (d == e) (suc n) n
 out_by (took e) d n = cond (d == e) (n - 1) n
 out_by (settled e t c bills) d n = cond (d == e) (n - 1) n
 
--- how many slips for the day are out
+-- how many slips for the day are out; where none is, a slip that another book gave, spent here, takes none
 abbrev pub out : History → ℕ → ℕ
 out [] d = 0
 out (e ∷ h) d = out_by (effect e) d (out h d)
@@ -107,6 +110,11 @@ abbrev pub WholeBy : ℕ → Latest → Type 0
 WholeBy d never = Unit {0}
 WholeBy d (run t) = Whole d t
 
+-- a day reads as reserved
+abbrev pub reads_reserved : Result Account BookRefusal → Bool
+reads_reserved (Ok a) = a.reserved
+reads_reserved (Err e) = false
+
 -- THE LAW OF ACCOUNTS, between what was called on a book and what it keeps
 pub record Accounts (h : History) (k : Kept) : Type 0 where
   -- the bills of a day add up, for each entity and charge type, to its amounts by the formulas over the sources of the run last posted
@@ -115,13 +123,15 @@ pub record Accounts (h : History) (k : Kept) : Type 0 where
   pub bounded : (d : ℕ) → 2 * unsigned_abs (sum_to 64 (λ q. net (issued h d q))) ≤ answered h d
   -- and those are the charged shares of that run
   pub answered_is : (d : ℕ) → answered h d ≡ shares_by (last h d)
-  -- a day is reserved just where one slip for it is out, and there is never more than one
-  pub slip_out : (d : ℕ) → out h d ≡ cond (entry k d).reserved 1 0
+  -- a day reads as reserved, of whichever entity it is read, just where one slip for it is out, and there is never more than one
+  pub slip_out : (d q : ℕ) → q < 64 → out h d ≡ cond (reads_reserved (reading k d q)) 1 0
   -- the run last posted for a day is a whole run of that day
   pub whole : (d : ℕ) → WholeBy d (last h d)
   -- the book keeps what was billed, and whether anything was
   pub kept : (d q : ℕ) → q < 64 → slice_index_or (entry k d).amounts q none ≡ issued h d q
   pub marked : (d : ℕ) → (entry k d).billed ≡ is_run (last h d)
+  -- no day is reserved that cannot be read
+  pub within : (d : ℕ) → (entry k d).reserved ≡ true → d ≤ last_day
 
 -- a slip for the day is out
 abbrev pub SlipOut : History → ℕ → Type 0
