@@ -15,6 +15,7 @@ use Rattle.amounts.proofs.Ranged.{fit}
 use Rattle.intervals.specs.declared.warning.Warning.{Warning}
 use Rattle.intervals.specs.Courses.{course}
 use Rattle.runs.specs.Bounds.{Within}
+use Rattle.runs.specs.Works.{FaultlessOver}
 use Rattle.runs.proofs.Growing.{within_none, amounts_within}
 use Rattle.books.specs.Places.{in_range}
 use Rattle.books.specs.Kept.{Kept, entry, holds}
@@ -25,16 +26,17 @@ use Rattle.books.proofs.Sounds.{put_sound}
 use Rattle.books.proofs.Keeping.{reserving_sound, lifting_sound}
 use Rattle.accounts.specs.declared.refusal.PostRefusal.{PostRefusal}
 use Rattle.accounts.specs.Slips.{given}
-use Rattle.accounts.specs.Postings.{Said, Posted, posting, posted_by, misfit, settled}
+use Rattle.runs.specs.Sheets.{Said, said_of, rows_of}
+use Rattle.runs.proofs.Saying.{length_rows, row_of}
+use Rattle.runs.proofs.Asking.{judged_over}
+use Rattle.accounts.specs.Postings.{Posted, posting, posted_by, misfit, settled}
 use Rattle.accounts.specs.Histories.{History, Accounts, reserves}
 use Rattle.accounts.proofs.Keeping.{reserve_law, withdraw_law, slip_day}
 use Rattle.accounts.proofs.Posts.{SaidBy, post_law}
 use Rattle.jobs.specs.Days.{turn, step_by, walked, repeated, run_over}
-use Rattle.jobs.specs.Jobs.{said_of, rows_of, Done, job}
+use Rattle.jobs.specs.Jobs.{Done, job}
 use Rattle.jobs.proofs.Walking.{step_from, length_repeated}
-use Rattle.jobs.proofs.Jobbing.{length_rows, row_of}
 use Rattle.settlement.proofs.Billed.{reserved_within}
-use Rattle.settlement.proofs.Faultless.{faultless_judged}
 
 within_plus : (n : ℕ) (a b : Amounts) → Within n a → Within 1 b → Within (suc n) (plus a b)
 within_plus n a b w v = record { reactive = omega (arith, ints); held = omega (arith, ints); load = omega (arith, ints) }
@@ -47,16 +49,19 @@ module _ (rd : ℤ → ℕ → ℤ) (lawful : Lawful rd) (t : Table) (d : ℕ) w
   turn_faultless : (i rows : ℕ) → turn t d i rows ≡ fine tt → (course t d i).fault ≡ None
   turn_faultless i rows e = grind arith
 
-  judged_over : (ws : List Warning) (n : ℕ) → (walked t d ws n).told ≡ fine tt → JudgedOver entities resources d (repeated n t)
-  unfolding walked JudgedOver repeated
-  judged_over ws zero e = tt
-  judged_over ws (suc n) e =
+  faultless_over : (ws : List Warning) (n : ℕ) → (walked t d ws n).told ≡ fine tt → FaultlessOver d (repeated n t)
+  unfolding walked FaultlessOver repeated
+  faultless_over ws zero e = tt
+  faultless_over ws (suc n) e =
       let before = step_from t d ws (suc n) (walked t d ws n) (walked t d ws n).told refl e in
       let now = turn_faultless (suc n) _ (sym (ap (λ z. (step_by t d (suc n) (walked t d ws n) z).told) before) ∙ e) in
-      (judged_over ws n before, subst (λ l. Judged t d (suc l) entities resources) (sym (length_repeated n t)) (faultless_judged t d (suc n) now))
+      (faultless_over ws n before, subst (λ l. (course t d (suc l)).fault ≡ None) (sym (length_repeated n t)) now)
 
-  pub run_accepted : (ws : List Warning) → (walked t d ws last_interval).told ≡ fine tt → Accepted (run_over d rd last_interval t)
-  run_accepted ws e = record { lawful = lawful; judged = judged_over ws last_interval e }
+  pub run_faultless : (ws : List Warning) → (walked t d ws last_interval).told ≡ fine tt → FaultlessOver d (repeated last_interval t)
+  run_faultless ws e = faultless_over ws last_interval e
+
+  run_accepted : FaultlessOver d (repeated last_interval t) → Accepted (run_over d rd last_interval t)
+  run_accepted f = record { lawful = lawful; judged = judged_over d (repeated last_interval t) f }
 
   within_over : (n q : ℕ) → JudgedOver entities resources d (repeated n t) → q < entities → Within n (amount_over rd resources d (repeated n t) q)
   unfolding JudgedOver repeated amount_over
@@ -67,7 +72,10 @@ module _ (rd : ℤ → ℕ → ℤ) (lawful : Lawful rd) (t : Table) (d : ℕ) w
   run : Trace
   run = run_over d rd last_interval t
 
-  module _ (accepted : Accepted (run_over d rd last_interval t)) where
+  module _ (faultless : FaultlessOver d (repeated last_interval t)) where
+    accepted : Accepted (run_over d rd last_interval t)
+    accepted = run_accepted faultless
+
     row_in_range : (q : ℕ) → q < entities → in_range (get_or (rows_of entities (run_over d rd last_interval t)) q none) ≡ true
     row_in_range q lt = ap in_range (row_of entities q (run_over d rd last_interval t) lt) ∙ range_of _ (within_over last_interval q accepted.judged lt)
 
@@ -82,7 +90,7 @@ module _ (rd : ℤ → ℕ → ℤ) (lawful : Lawful rd) (t : Table) (d : ℕ) w
     place_sound within = record { day = within; taken = refl; long = length_rows entities (run_over d rd last_interval t); ranged = rows_in_range }
 
     pub said_by_run : SaidBy (run_over d rd last_interval t) (said_of (run_over d rd last_interval t))
-    said_by_run = record { day = refl; intervals = refl; totals = λ q lt. row_of entities q (run_over d rd last_interval t) lt; charged = refl; accepted = accepted }
+    said_by_run = record { day = refl; intervals = refl; totals = λ q lt. row_of entities q (run_over d rd last_interval t) lt; charged = refl; faultless = faultless; accepted = accepted }
 
 -- ---- what a posting leaves
 module _ (k : Kept) (d : ℕ) (s : Said) (bills : List Amounts) (sound : Sound k) (place : SoundPlace (settled d s.totals)) where
@@ -113,10 +121,10 @@ module _ (rd : ℤ → ℕ → ℤ) (lawful : Lawful rd) (t : Table) (d : ℕ) (
       let slip = slip_day d x (reserving k d).answer (sym e) in
       let within = reserved_within k d slip.1 in
       let law = reserved_law (fine d) (e ∙ ap fine slip.0) in
-      let accepted = run_accepted rd lawful t d ws o in
+      let faultless = run_faultless rd lawful t d ws o in
       rw (e, o) (record {
-        law = λ h holds. post_law _ d _ bills (reserves d (fine d) ∷ h) (law h holds) after.rising within (run_over d rd last_interval t) (said_by_run rd lawful t d accepted);
-        sound = posting_sound _ d _ bills after (place_sound rd lawful t d accepted within);
+        law = λ h holds. post_law _ d _ bills (reserves d (fine d) ∷ h) (law h holds) after.rising (run_over d rd last_interval t) (said_by_run rd lawful t d faultless);
+        sound = posting_sound _ d _ bills after (place_sound rd lawful t d faultless within);
       })
   by_walked x (refuse n vs) e o =
       let after = reserving_sound k d sound in
@@ -124,7 +132,7 @@ module _ (rd : ℤ → ℕ → ℤ) (lawful : Lawful rd) (t : Table) (d : ℕ) (
       let within = reserved_within k d slip.1 in
       let law = reserved_law (fine d) (e ∙ ap fine slip.0) in
       rw (e, o) (record {
-        law = λ h holds. withdraw_law _ d (reserves d (fine d) ∷ h) after.rising within (law h holds);
+        law = λ h holds. withdraw_law _ d (reserves d (fine d) ∷ h) after.rising (law h holds);
         sound = lifting_sound _ d after false;
       })
 

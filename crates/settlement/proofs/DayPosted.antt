@@ -34,6 +34,7 @@ module _ (a b : Trace) (same : SameRun a b) where
     whole = law.whole;
     kept = law.kept;
     marked = law.marked;
+    within = law.within;
   }
   posted_same d bills (fine c) h k law = record {
     issued_is = λ e q lt. law.issued_is e q lt ∙ amount_last (e == d) _ q;
@@ -43,4 +44,5 @@ module _ (a b : Trace) (same : SameRun a b) where
     whole = λ e. whole_last (e == d) _ e (law.whole e);
     kept = law.kept;
     marked = λ e. law.marked e ∙ run_last (e == d) _;
+    within = law.within;
   }

@@ -7,6 +7,5 @@ pub mod DayTables
 pub mod Billed
 pub mod Opened
 pub mod Worked
-pub mod Faultless
 pub mod Accepted
 pub mod Posted

@@ -14,9 +14,8 @@ use Rattle.runs.specs.declared.work.Work.{Work}
 use Rattle.runs.specs.Refusals.{day_numbered}
 use Rattle.runs.specs.Days.{checking}
 use Rattle.runs.specs.Works.{WorkedBy}
-use Rattle.accounts.specs.Postings.{Said}
+use Rattle.runs.specs.Sheets.{Said, said_of}
 use Rattle.jobs.specs.Days.{walked, watched, run_through}
-use Rattle.jobs.specs.Jobs.{said_of}
 use Rattle.settlement.specs.declared.dayfile.DayFile.{DayFile}
 use Rattle.settlement.specs.SameDays.{SameDay}
 use Rattle.settlement.specs.Tables.{table_of}

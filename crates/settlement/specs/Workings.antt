@@ -6,10 +6,9 @@ use Rattle.amounts.specs.Traces.{Trace}
 use Rattle.intervals.specs.declared.warning.Warning.{Warning}
 use Rattle.detfile.specs.Files.{checked}
 use Rattle.runs.specs.Days.{checking}
-use Rattle.accounts.specs.Postings.{Said, said}
+use Rattle.runs.specs.Sheets.{Said, said, said_of}
 use Rattle.jobs.specs.declared.days.DayRun.{DayRun}
 use Rattle.jobs.specs.Days.{walked, watched, run_through, day_told}
-use Rattle.jobs.specs.Jobs.{said_of}
 use Rattle.settlement.specs.declared.dayfile.DayFile.{DayFile}
 use Rattle.settlement.specs.declared.refusal.Unworked.{Unworked}
 use Rattle.settlement.specs.Refusals.{unworked}
