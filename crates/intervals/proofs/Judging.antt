@@ -33,7 +33,7 @@ held_missing Stops None e = inr ((cc), refl)
 held_missing Stops (Some z) e = inl ((cc), (cc))
 
 -- zero lies in every range
-admitted_zero : (d : Determinant) → admitted d (pos 0) ≡ true
+pub admitted_zero : (d : Determinant) → admitted d (pos 0) ≡ true
 admitted_zero Owner = refl
 admitted_zero Vssvariol = refl
 admitted_zero Urllag = refl

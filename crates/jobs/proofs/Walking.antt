@@ -79,7 +79,7 @@ module _ (t : Table) (y : ℕ) (ws : List Warning) where
       let g = walk_stays n k (k + n) e refl h in
       rw next (step_stays (suc (k + n)) (walked t y ws (k + n)) e (ap (λ w. w.told) g ∙ h) ∙ g)
 
-  step_from : (i : ℕ) (w : Walk) (a : Told (Unit {0})) → w.told ≡ a → (step t y i w).told ≡ fine tt → w.told ≡ fine tt
+  pub step_from : (i : ℕ) (w : Walk) (a : Told (Unit {0})) → w.told ≡ a → (step t y i w).told ≡ fine tt → w.told ≡ fine tt
   step_from i w (fine x) is e = is
   step_from i w (refuse n us) is e = (let f : (step t y i w).told ≡ refuse n us = ap (λ z. (step_by t y i w z).told) is ∙ is in cc)
 

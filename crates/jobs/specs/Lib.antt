@@ -1,4 +1,3 @@
 pub mod Days
 pub mod Refusals
 pub mod Jobs
-pub mod Lists

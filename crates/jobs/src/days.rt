@@ -30,11 +30,11 @@ fn work_intervals<R: Rounding, S: Source, W: Watch>(
     watch: &mut W,
 ) -> Result<(), IntervalRefusal>
     requires going { run.old.stopped ≡ false }
-    requires law { WorkedBy (traced run.old.work.day (R.Rounding.rounded run.old.rule) []) run.old.work }
-    ensures told { day_told result ≡ (walked (S.Source.table source.now) run.old.work.day warnings.old last_interval).told }
-    ensures warnings { warnings.new ≡ (walked (S.Source.table source.now) run.old.work.day warnings.old last_interval).warnings }
-    ensures watch { W.Watch.state watch.new ≡ watched W.Watch.told (S.Source.table source.now) run.old.work.day warnings.old (W.Watch.state watch.old) last_interval }
-    ensures law { WorkedBy (run_through run.old.work.day (R.Rounding.rounded run.old.rule) (S.Source.table source.now) warnings.old) run.new.work }
+    requires law { WorkedBy (traced run.old.work.day (R.rounded run.old.rule) []) run.old.work }
+    ensures told { day_told result ≡ (walked (S.table source.now) run.old.work.day warnings.old last_interval).told }
+    ensures warnings { warnings.new ≡ (walked (S.table source.now) run.old.work.day warnings.old last_interval).warnings }
+    ensures watch { W.state watch.new ≡ watched W.told (S.table source.now) run.old.work.day warnings.old (W.state watch.old) last_interval }
+    ensures law { WorkedBy (run_through run.old.work.day (R.rounded run.old.rule) (S.table source.now) warnings.old) run.new.work }
 {
     for worked in 0..LAST_INTERVAL {
         match run.interval(source, worked + 1, warnings) {
@@ -54,11 +54,11 @@ pub fn run_day<R: Rounding + Drop, S: Source, W: Watch>(
     warnings: &mut [Warning],
     watch: &mut W,
 ) -> DayRun
-    ensures told { day_told result.ended ≡ (walked (S.Source.table source.now) day.day warnings.old last_interval).told }
-    ensures warnings { warnings.new ≡ (walked (S.Source.table source.now) day.day warnings.old last_interval).warnings }
-    ensures watch { W.Watch.state watch.new ≡ watched W.Watch.told (S.Source.table source.now) day.day warnings.old (W.Watch.state watch.old) last_interval }
-    ensures sheet { said result.sheet.work ≡ said_of (run_through day.day (R.Rounding.rounded rule) (S.Source.table source.now) warnings.old) }
-    ensures law { WorkedBy (run_through day.day (R.Rounding.rounded rule) (S.Source.table source.now) warnings.old) result.sheet.work }
+    ensures told { day_told result.ended ≡ (walked (S.table source.now) day.day warnings.old last_interval).told }
+    ensures warnings { warnings.new ≡ (walked (S.table source.now) day.day warnings.old last_interval).warnings }
+    ensures watch { W.state watch.new ≡ watched W.told (S.table source.now) day.day warnings.old (W.state watch.old) last_interval }
+    ensures sheet { said result.sheet.work ≡ said_of (run_through day.day (R.rounded rule) (S.table source.now) warnings.old) }
+    ensures law { WorkedBy (run_through day.day (R.rounded rule) (S.table source.now) warnings.old) result.sheet.work }
 {
     let mut run = Run::open(day, rule);
     let ended = work_intervals(&mut run, source, warnings, watch);

@@ -33,9 +33,9 @@ fn run_day_of(slip: &Slip) -> RunDay
 // Withdraws the slip of a job whose day is not worked, and says why it is not.
 fn give_up<B: Book>(book: &mut B, slip: Slip, refusal: IntervalRefusal) -> JobRefusal
     ensures same { result ≡ JobRefusal.Interval refusal }
-    ensures kept { B.Book.kept book.new ≡ (lifting (B.Book.kept book.old) slip.day false).after }
-    ensures beside { B.Book.beside book.new ≡ B.Book.beside book.old }
-    ensures law { (h : History) → Accounts h (B.Book.kept book.old) → Accounts (withdraws slip.day (book_told (lifting (B.Book.kept book.old) slip.day false).answer) ∷ h) (B.Book.kept book.new) }
+    ensures kept { B.kept book.new ≡ (lifting (B.kept book.old) slip.day false).after }
+    ensures beside { B.beside book.new ≡ B.beside book.old }
+    ensures law { (h : History) → Accounts h (B.kept book.old) → Accounts (withdraws slip.day (book_told (lifting (B.kept book.old) slip.day false).answer) ∷ h) (B.kept book.new) }
 {
     let _ = withdraw(book, slip);
     JobRefusal::Interval(refusal)
@@ -52,15 +52,15 @@ pub fn work_job<B: Book, R: Rounding + Drop, S: Source, W: Watch>(
     bills: &mut [Amounts],
     watch: &mut W,
 ) -> Result<u32, JobRefusal>
-    ensures answer { told result ≡ (job (R.Rounding.rounded rule) (S.Source.table source.now) day bills.old warnings.old (B.Book.kept book.old)).answer }
-    ensures kept { B.Book.kept book.new ≡ (job (R.Rounding.rounded rule) (S.Source.table source.now) day bills.old warnings.old (B.Book.kept book.old)).kept }
-    ensures beside { B.Book.beside book.new ≡ B.Book.beside book.old }
-    ensures bills { bills.new ≡ (job (R.Rounding.rounded rule) (S.Source.table source.now) day bills.old warnings.old (B.Book.kept book.old)).bills }
-    ensures warnings { warnings.new ≡ (job (R.Rounding.rounded rule) (S.Source.table source.now) day bills.old warnings.old (B.Book.kept book.old)).warnings }
-    ensures watch { W.Watch.state watch.new ≡ job_watched W.Watch.told (S.Source.table source.now) day warnings.old (B.Book.kept book.old) (W.Watch.state watch.old) }
-    ensures unchanged { IfErr result (λ e. B.Book.kept book.new ≡ B.Book.kept book.old) }
-    ensures law { (h : History) → Accounts h (B.Book.kept book.old) → Accounts ((job (R.Rounding.rounded rule) (S.Source.table source.now) day bills.old warnings.old (B.Book.kept book.old)).calls ++ h) (B.Book.kept book.new) }
-    ensures difference { (h : History) → Accounts h (B.Book.kept book.old) → IfOk result (λ _. BilledBetween (last h day) (run_over day (R.Rounding.rounded rule) last_interval (S.Source.table source.now)) bills.new) }
+    ensures answer { told result ≡ (job (R.rounded rule) (S.table source.now) day bills.old warnings.old (B.kept book.old)).answer }
+    ensures kept { B.kept book.new ≡ (job (R.rounded rule) (S.table source.now) day bills.old warnings.old (B.kept book.old)).kept }
+    ensures beside { B.beside book.new ≡ B.beside book.old }
+    ensures bills { bills.new ≡ (job (R.rounded rule) (S.table source.now) day bills.old warnings.old (B.kept book.old)).bills }
+    ensures warnings { warnings.new ≡ (job (R.rounded rule) (S.table source.now) day bills.old warnings.old (B.kept book.old)).warnings }
+    ensures watch { W.state watch.new ≡ job_watched W.told (S.table source.now) day warnings.old (B.kept book.old) (W.state watch.old) }
+    ensures unchanged { IfErr result (λ e. B.kept book.new ≡ B.kept book.old) }
+    ensures law { (h : History) → Accounts h (B.kept book.old) → Accounts ((job (R.rounded rule) (S.table source.now) day bills.old warnings.old (B.kept book.old)).calls ++ h) (B.kept book.new) }
+    ensures difference { (h : History) → Accounts h (B.kept book.old) → IfOk result (λ _. BilledBetween (last h day) (run_over day (R.rounded rule) last_interval (S.table source.now)) bills.new) }
 {
     let slip = match reserve(book, day) {
         Ok(slip) => slip,

@@ -2,8 +2,6 @@
 #![tactic(auto)]
 
 pub mod days;
-pub mod ending;
 pub mod job;
-pub mod lists;
 pub mod refusal;
 pub mod watch;

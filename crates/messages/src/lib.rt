@@ -5,6 +5,7 @@ pub mod broken;
 pub mod marks;
 mod names;
 mod place;
+pub mod printable;
 mod quotes;
 pub mod refused;
 pub mod stopped;

@@ -2,6 +2,7 @@
 use crate::console::Console;
 use crate::words::{NoNumber, number_of};
 use filesource::source::FileSource;
+use messages::printable::Printable;
 use notation::figure::Figure;
 use std::fmt;
 use std::rt::Files;
@@ -37,10 +38,13 @@ impl<'a> From<NoNumber<'a>> for PlaceFault<'a> {
 impl fmt::Display for PlaceFault<'_> {
     fn fmt<W: fmt::Write>(&self, f: &mut fmt::Formatter<W>) -> fmt::Result {
         match self {
-            PlaceFault::NoDeterminant(name) => write!(
-                f,
-                "{name} is no determinant's name; names are written in capitals, as RTSPP"
-            ),
+            PlaceFault::NoDeterminant(name) => {
+                let name = Printable(name);
+                write!(
+                    f,
+                    "{name} is no determinant's name; names are written in capitals, as RTSPP"
+                )
+            }
             PlaceFault::NoNumber(fault) => write!(f, "{fault}"),
         }
     }

@@ -2,6 +2,7 @@
 use crate::console::Console;
 use detfile::check::check_file;
 use detfile::refusal::FileRefusal;
+use messages::printable::Printable;
 use messages::refused;
 use std::io;
 use std::rt::Files;
@@ -33,7 +34,10 @@ impl<R: Files + Print + Eprint + AllocGlobal> Console<'_, R> {
         verdict: Result<u32, FileRefusal>,
     ) -> io::Result<()> {
         match verdict {
-            Ok(count) => println!(self.rt; "{path}: accepted, {count} value lines"),
+            Ok(count) => {
+                let path = Printable(path);
+                println!(self.rt; "{path}: accepted, {count} value lines")
+            }
             Err(refusal) => self.say_refused(path, bytes, refusal),
         }
     }
@@ -47,6 +51,7 @@ impl<R: Files + Print + Eprint + AllocGlobal> Console<'_, R> {
         let answer = refusal.number();
         let line = refusal.line();
         let why = refused::Sentence { bytes, refusal };
+        let path = Printable(path);
         println!(self.rt; "{path}: refused, answer {answer} at line {line}: {why}")
     }
 }

@@ -1,4 +1,5 @@
 // Where a command speaks.
+use std::cell::Cell;
 use std::fmt::Display;
 use std::io;
 
@@ -16,13 +17,18 @@ pub(crate) enum Call {
 pub(crate) struct Console<'a, R> {
     pub(crate) rt: &'a R,
     pub(crate) call: Call,
+    // Whether something could not be written to standard error. The work goes on, and the status tells at the end.
+    pub(crate) unheard: &'a Cell<bool>,
 }
 
 impl<R: Print + Eprint> Console<'_, R> {
     // Says what is wrong with a command.
     pub(crate) fn complain(&self, message: impl Display + Drop) -> io::Result<()> {
         match self.call {
-            Call::Single => eprintln!(self.rt; "settle: {message}"),
+            Call::Single => {
+                self.tell(format_args!("settle: {message}"));
+                Ok(())
+            }
             Call::Script(line) => println!(self.rt; "script line {line}: {message}"),
         }
     }
@@ -34,10 +40,17 @@ impl<R: Print + Eprint> Console<'_, R> {
     }
 
     // What helps the one who gave a single command; a script's output has only results and messages.
-    pub(crate) fn hint(&self, text: impl Display + Drop) -> io::Result<()> {
+    pub(crate) fn hint(&self, text: impl Display + Drop) {
         match self.call {
-            Call::Single => eprintln!(self.rt; "{text}"),
-            Call::Script(_) => Ok(()),
+            Call::Single => self.tell(text),
+            Call::Script(_) => {}
+        }
+    }
+
+    // A line on standard error. Nothing stops where it cannot be written: a posting is worth more than what is said of it.
+    fn tell(&self, text: impl Display + Drop) {
+        if self.rt.eprintln(text).is_err() {
+            self.unheard.set(true);
         }
     }
 }

@@ -1,6 +1,7 @@
 // Reading a file of at most the bytes that matter.
 use crate::console::Console;
 use detfile::check::MOST_BYTES;
+use messages::printable::Printable;
 use std::fs::File;
 use std::io;
 use std::io::Read;
@@ -17,6 +18,7 @@ impl<R: Files + Print + Eprint + AllocGlobal> Console<'_, R> {
         match read(self.rt, path, most) {
             Ok(bytes) => Ok(Some(bytes)),
             Err(e) => {
+                let path = Printable(path);
                 self.complain(format_args!("{path}: cannot be read: {e}"))?;
                 Ok(None)
             }

@@ -5,7 +5,9 @@ use crate::words::{NoNumber, number_of};
 use books::records::MOST_PLACES;
 use image::write::PLACE_BYTES;
 use imagebook::clear::clear_image;
+use messages::printable::Printable;
 use std::fmt;
+use std::fs::File;
 use std::rt::Files;
 
 const EXAMPLE: &str = "settle book new book.bin 32";
@@ -28,6 +30,7 @@ impl fmt::Display for PlacesFault<'_> {
         match self {
             PlacesFault::NoNumber(fault) => write!(f, "{fault}"),
             PlacesFault::TooMany(word) => {
+                let word = Printable(word);
                 write!(f, "PLACES is {word}; a book has from 0 to {MOST_PLACES}")
             }
         }
@@ -43,7 +46,7 @@ fn image_bytes<'a>(word: &'a str) -> Result<usize, PlacesFault<'a>> {
     Ok(places * PLACE_BYTES)
 }
 
-impl<R: Files + Print + Eprint + AllocGlobal> Console<'_, R> {
+impl<R: Files<File = File> + Print + Eprint + AllocGlobal> Console<'_, R> {
     // A new book in a file of its own; false where there is none.
     pub(crate) fn new_book(&self, path: &str, places: &str) -> anyhow::Result<bool> {
         let length = match image_bytes(places) {
@@ -52,7 +55,9 @@ impl<R: Files + Print + Eprint + AllocGlobal> Console<'_, R> {
         };
         let mut bytes = vec![in self.rt.alloc(); 0; length]?;
         clear_image(bytes.as_mut_slice());
-        if let Err(fault) = save_new(self.rt, path, bytes.as_slice()) {
+        let saved = save_new(self.rt, path, bytes.as_slice());
+        let path = Printable(path);
+        if let Err(fault) = saved {
             return self.refuse(format_args!("{path}: {fault}"));
         }
         let places = length / PLACE_BYTES;

@@ -1,20 +1,35 @@
 // The options of `settle work` and `settle post`.
 use crate::words::{NoNumber, number_of};
+use messages::printable::Printable;
 use rounding::rules::{NoRule, Rule};
 use std::fmt;
 
+// The command that the options are for. Only `work` takes a rule: bills are rounded by one rule always.
+#[derive(Clone, Copy, PartialEq, Eq)]
+pub(crate) enum Command {
+    Work,
+    Post,
+}
+
+// How a file is read.
 #[derive(Clone, Copy)]
 pub(crate) struct Options {
-    pub(crate) rule: Rule,
     pub(crate) fill: bool,
     // Each question goes to the file, not to a table that was made of it.
     pub(crate) direct: bool,
 }
 
+#[derive(Clone, Copy)]
+pub(crate) struct WorkOptions {
+    pub(crate) rule: Rule,
+    pub(crate) options: Options,
+}
+
 // What is wrong with an option, and the word at which it is seen.
 #[derive(Clone, Copy)]
 pub(crate) enum OptionFault<'a> {
-    Unknown(&'a str),
+    Unknown(&'a str, Command),
+    RuleOfBills,
     NoRule(&'a str, NoRule),
     RuleMissing,
 }
@@ -22,11 +37,22 @@ pub(crate) enum OptionFault<'a> {
 impl fmt::Display for OptionFault<'_> {
     fn fmt<W: fmt::Write>(&self, f: &mut fmt::Formatter<W>) -> fmt::Result {
         match self {
-            OptionFault::Unknown(word) => write!(
+            OptionFault::Unknown(word, command) => {
+                let word = Printable(word);
+                let allowed = command.allowed();
+                write!(
+                    f,
+                    "{word} is no option of work or post; allowed are {allowed}"
+                )
+            }
+            OptionFault::RuleOfBills => write!(
                 f,
-                "{word} is no option of work or post; allowed are --rule away, --rule even, --fill and --direct"
+                "--rule is no option of post, which bills with half a cent away from zero; allowed are --fill and --direct"
             ),
-            OptionFault::NoRule(word, fault) => write!(f, "{word} is {fault}"),
+            OptionFault::NoRule(word, fault) => {
+                let word = Printable(word);
+                write!(f, "{word} is {fault}")
+            }
             OptionFault::RuleMissing => write!(
                 f,
                 "--rule wants a rounding rule after it; allowed are away and even"
@@ -35,29 +61,39 @@ impl fmt::Display for OptionFault<'_> {
     }
 }
 
-impl Options {
+impl Command {
+    fn allowed(self) -> &'static str {
+        match self {
+            Command::Work => "--rule away, --rule even, --fill and --direct",
+            Command::Post => "--fill and --direct",
+        }
+    }
+}
+
+impl WorkOptions {
     // What the words after FILE and DAY ask for. Of an option that stands twice the later counts.
-    pub(crate) fn read<'a>(words: &[&'a str]) -> Result<Options, OptionFault<'a>> {
+    fn read<'a>(command: Command, words: &[&'a str]) -> Result<WorkOptions, OptionFault<'a>> {
+        let mut rule = Rule::Away;
         let mut options = Options {
-            rule: Rule::Away,
             fill: false,
             direct: false,
         };
         let mut words = words.iter().copied();
         while let Some(word) = words.next() {
             match word {
+                "--rule" if command == Command::Post => return Err(OptionFault::RuleOfBills),
                 "--rule" => {
                     let name = words.next().ok_or(OptionFault::RuleMissing)?;
-                    options.rule = name
+                    rule = name
                         .parse()
                         .map_err(|fault| OptionFault::NoRule(name, fault))?;
                 }
                 "--fill" => options.fill = true,
                 "--direct" => options.direct = true,
-                _ => return Err(OptionFault::Unknown(word)),
+                _ => return Err(OptionFault::Unknown(word, command)),
             }
         }
-        Ok(options)
+        Ok(WorkOptions { rule, options })
     }
 }
 
@@ -91,10 +127,11 @@ impl fmt::Display for WordsFault<'_> {
 
 // The day that is asked for, and the options, which are looked at first.
 pub(crate) fn day_and_options<'a>(
+    command: Command,
     day: &'a str,
     words: &[&'a str],
     example: &'static str,
-) -> Result<(u32, Options), WordsFault<'a>> {
-    let options = Options::read(words)?;
+) -> Result<(u32, WorkOptions), WordsFault<'a>> {
+    let options = WorkOptions::read(command, words)?;
     Ok((number_of("DAY", day, example)?, options))
 }

@@ -1,7 +1,10 @@
 // Commands by their words, and scripts of commands.
 use crate::ask::Place;
 use crate::console::{Call, Console};
+use messages::printable::Printable;
+use std::cell::Cell;
 use std::fmt::Display;
+use std::fs::File;
 use std::io::{BufRead, BufReader};
 use std::rt::{Clock, Files};
 use std::str::from_utf8;
@@ -15,7 +18,7 @@ const USAGE: &str = "usage: settle COMMAND
       the amounts of a day worked from a file, as: settle work day.txt 7; --rule even rounds half a cent to the even
       neighbour and not away from zero; --fill takes zero where VSSVARIOL, URLLAG or URLLEAD is null; --direct puts each
       question to the file, which is slow and comes to the same
-  settle post BOOK DAY FILE [--rule away|even] [--fill] [--direct]
+  settle post BOOK DAY FILE [--fill] [--direct]
       a day worked from a file and posted to a book, as: settle post book.bin 7 day.txt; prints what was posted before and
       what each QSE is billed now, and writes the book; where anything is refused, the book is as it was
   settle book new PATH PLACES
@@ -26,7 +29,7 @@ const USAGE: &str = "usage: settle COMMAND
       this text
 With no command, each line of standard input is one; blank lines and lines that begin with # are passed over.";
 
-impl<R: Files + Clock + Print + Eprint + AllocGlobal> Console<'_, R> {
+impl<R: Files<File = File> + Clock + Print + Eprint + AllocGlobal> Console<'_, R> {
     // One command, where there are words; false where it was refused or found something wrong.
     pub(crate) fn command(&self, words: &[&str]) -> anyhow::Result<bool> {
         match *words {
@@ -52,7 +55,10 @@ impl<R: Files + Clock + Print + Eprint + AllocGlobal> Console<'_, R> {
                 self.rt.println(USAGE)?;
                 Ok(true)
             }
-            [name, ..] => self.wrong(format_args!("there is no command {name}")),
+            [name, ..] => {
+                let name = Printable(name);
+                self.wrong(format_args!("there is no command {name}"))
+            }
         }
     }
 
@@ -70,7 +76,7 @@ impl<R: Files + Clock + Print + Eprint + AllocGlobal> Console<'_, R> {
 
     fn wrong(&self, message: impl Display + Drop) -> anyhow::Result<bool> {
         self.complain(message)?;
-        self.hint(USAGE)?;
+        self.hint(USAGE);
         Ok(false)
     }
 
@@ -90,8 +96,9 @@ impl<R: Files + Clock + Print + Eprint + AllocGlobal> Console<'_, R> {
 }
 
 // Each line of standard input; the usage text where there is none.
-pub(crate) fn run<R: Files + Clock + Input + Print + Eprint + AllocGlobal>(
+pub(crate) fn run<R: Files<File = File> + Clock + Input + Print + Eprint + AllocGlobal>(
     rt: &R,
+    unheard: &Cell<bool>,
 ) -> anyhow::Result<()> {
     let input = BufReader::new(rt.alloc(), rt.reader())?;
     let mut lines = (1..).zip(input.split(rt.alloc(), b'\n')).peekable();
@@ -100,7 +107,7 @@ pub(crate) fn run<R: Files + Clock + Input + Print + Eprint + AllocGlobal>(
     }
     for (number, line) in lines {
         let call = Call::Script(number);
-        Console { rt, call }.line(line?.as_slice())?;
+        Console { rt, call, unheard }.line(line?.as_slice())?;
     }
     Ok(())
 }

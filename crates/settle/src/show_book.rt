@@ -7,6 +7,7 @@ use books::shelf::Shelf;
 use imagebook::bytes::Image;
 use imagebook::opening::{Opened, close};
 use messages::broken::MOST_BYTES;
+use messages::printable::Printable;
 use messages::{broken, marks, table};
 use std::io;
 use std::rt::Files;
@@ -21,7 +22,7 @@ fn count_held(book: &Shelf<Image>) -> usize {
 }
 
 // What a book keeps of a day; no mark and no amounts where it is not held.
-pub(crate) fn seek(book: &Shelf<Image>, day: u16) -> Place {
+fn seek(book: &Shelf<Image>, day: u16) -> Place {
     for index in 0..book.places() {
         if let Some(place) = book.held(index)
             && place.day == day
@@ -53,6 +54,7 @@ impl<R: Files + Print + Eprint + AllocGlobal> Console<'_, R> {
         let Some(bytes) = self.load_most(path, MOST_BYTES)? else {
             return Ok(false);
         };
+        self.warn_empty(path, &bytes)?;
         let Opened { book, fault } = Opened::new(bytes);
         let said = match fault {
             None => self.say_book(path, &book, day),
@@ -65,13 +67,24 @@ impl<R: Files + Print + Eprint + AllocGlobal> Console<'_, R> {
         };
         let bytes = bytes.as_slice();
         let why = broken::Sentence { bytes, fault };
+        let path = Printable(path);
         println!(self.rt; "{path}: no book: {why}")?;
         Ok(false)
+    }
+
+    // An empty file is a book of no places; it may also have come to be moved over one.
+    pub(crate) fn warn_empty(&self, path: &str, bytes: &[u8]) -> io::Result<()> {
+        if !bytes.is_empty() {
+            return Ok(());
+        }
+        let path = Printable(path);
+        println!(self.rt; "{path}: the file is empty, which is a book of 0 places")
     }
 
     fn say_book(&self, path: &str, book: &Shelf<Image>, day: Option<u16>) -> io::Result<()> {
         let places = book.places();
         let held = count_held(book);
+        let path = Printable(path);
         println!(self.rt; "{path}: book, {places} places, {held} days held")?;
         match day {
             Some(day) => self.say_day(&seek(book, day)),

@@ -1,5 +1,6 @@
 // Numbers among the words of a command.
 use crate::console::Console;
+use messages::printable::Printable;
 use std::fmt;
 use terms::question::LAST_DAY;
 
@@ -18,6 +19,7 @@ impl fmt::Display for NoNumber<'_> {
             word,
             example,
         } = *self;
+        let word = Printable(word);
         write!(
             f,
             "{what} is {word}, which is no whole number; as in: {example}"
@@ -44,6 +46,7 @@ pub(crate) fn number_of<'a>(
 impl<R: Print> Console<'_, R> {
     // Of a day that lies outside its range, by the number of the answer.
     pub(crate) fn say_day_refused(&self, day: &str, answer: u32) -> anyhow::Result<bool> {
+        let day = Printable(day);
         println!(self.rt;
             "day {day}: refused, answer {answer}: a day is a number from 0 to {LAST_DAY}"
         )?;

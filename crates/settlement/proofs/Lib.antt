@@ -1,0 +1,11 @@
+pub mod DayAsked
+pub mod DayWalked
+pub mod DayRuns
+pub mod DayPosted
+pub mod DayJobs
+pub mod DayTables
+pub mod Billed
+pub mod Opened
+pub mod Worked
+pub mod Accepted
+pub mod Posted

@@ -1,19 +1,9 @@
 -- Lists of postings of files, one after the other on one book; the newest first. Assumes nothing.
 use Rattle.std.specs.Prelude.{ℕ, List, [], ◌∷◌, ◌++◌}
 use Rattle.intervals.specs.declared.warning.Warning.{Warning}
-use Rattle.books.specs.Lists.{new_kept}
-use Rattle.imagebook.specs.Images.{image_of}
 use Rattle.accounts.specs.Histories.{History}
 use Rattle.settlement.specs.declared.dayfile.DayFile.{DayFile}
 use Rattle.settlement.specs.Postings.{posted}
-
--- the most places that a book has
-abbrev pub most_places : ℕ
-most_places = 32
-
--- the bytes of a new book
-abbrev pub new_image : ℕ → List ℕ
-new_image places = image_of (new_kept places)
 
 -- what one call is handed: a file's bytes with its day and the choice of the fill, and the list of warnings that is lent
 pub record Filing : Type 0 where

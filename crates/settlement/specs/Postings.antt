@@ -1,5 +1,5 @@
 -- What the posting of a file comes to, from the bytes of the file and of the book. Assumes nothing.
-use Rattle.std.specs.Prelude.{◌≡◌, ℕ, Bool, true, false, cond, List, [], Ok, Err, Result}
+use Rattle.std.specs.Prelude.{ℕ, List, [], Ok, Err, Result}
 use Rattle.std.proofs.Math.ListN.{replicate}
 use Rattle.terms.specs.Told.{Told, fine, refuse}
 use Rattle.terms.specs.Limits.{last_interval}
@@ -54,11 +54,11 @@ pub record Outcome : Type 0 where
 
 module _ (f : DayFile) (ws : List Warning) (book : List ℕ) where
   -- nothing was called on the book
-  abbrev left : Ended Bills → Outcome
+  abbrev pub left : Ended Bills → Outcome
   left a = record { book = book; answer = a; warnings = ws; calls = [] }
 
   -- the job was done on the book that the bytes mean, and the new bytes are the image of what it leaves
-  abbrev done : Outcome
+  abbrev pub done : Outcome
   done = record {
     book = image_of (job_of f ws (opened book)).kept;
     answer = answered (bills_of f ws (opened book));
@@ -66,23 +66,34 @@ module _ (f : DayFile) (ws : List Warning) (book : List ℕ) where
     calls = (job_of f ws (opened book)).calls;
   }
 
-  abbrev by_image : Result ℕ ImageFault → Outcome
+  abbrev pub by_image : Result ℕ ImageFault → Outcome
   by_image (Ok n) = done
   by_image (Err e) = left (no_book e)
 
-  abbrev by_file : Told ℕ → Outcome
-  by_file (fine n) = by_image (image_read book)
+  -- the posting of a file that is sound
+  unfoldable pub posted_sound : Outcome
+  posted_sound = by_image (image_read book)
+
+  abbrev pub by_file : Told ℕ → Outcome
+  by_file (fine n) = posted_sound
   by_file (refuse n vs) = left (answered (refuse n vs))
 
   -- THE POSTING OF A FILE: the file is checked, then the book is opened, and then the job is done
   unfoldable pub posted : Outcome
   posted = by_file (checked f.bytes.now)
 
-  abbrev watched_by : {S : Type 0} → Told ℕ → Result ℕ ImageFault → S → S → S
-  watched_by (fine n) (Ok m) s after = after
-  watched_by (fine n) (Err e) s after = s
-  watched_by (refuse n vs) r s after = s
+  module _ {S : Type 0} (tell : S → ℕ → List Warning → S) (s : S) where
+    abbrev pub heard_by_image : Result ℕ ImageFault → S
+    heard_by_image (Ok n) = job_watched tell (table_of f) f.day ws (opened book) s
+    heard_by_image (Err e) = s
 
-  -- what a watch makes of it: it is told of the job, where there is one
-  unfoldable pub posted_watched : {S : Type 0} → (S → ℕ → List Warning → S) → S → S
-  posted_watched tell s = watched_by (checked f.bytes.now) (image_read book) s (job_watched tell (table_of f) f.day ws (opened book) s)
+    -- what a watch makes of it: it is told of the job, where there is one
+    unfoldable pub sound_watched : S
+    sound_watched = heard_by_image (image_read book)
+
+    abbrev pub heard_by_file : Told ℕ → S
+    heard_by_file (fine n) = sound_watched
+    heard_by_file (refuse n vs) = s
+
+    unfoldable pub posted_watched : S
+    posted_watched = heard_by_file (checked f.bytes.now)

@@ -1,6 +1,6 @@
 -- How the posting and the working of a file end: each case's number and values. Assumes nothing.
 use Rattle.std.specs.Prelude.{Ok, Err, Result}
-use Rattle.terms.specs.Told.{Told, fine, refuse}
+use Rattle.terms.specs.Told.{Told, fine}
 use Rattle.detfile.specs.Refusals.{numbered as file_numbered}
 use Rattle.runs.specs.Refusals.{day_numbered}
 use Rattle.imagebook.specs.declared.fault.ImageFault.{ImageFault}

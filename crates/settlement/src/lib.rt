@@ -3,7 +3,7 @@
 
 pub mod bills;
 pub mod dayfile;
-pub mod lists;
+pub mod laws;
 pub mod posting;
 pub mod reading;
 pub mod refusal;

@@ -1,27 +1,26 @@
 // Posting a file's day to the bytes of a book.
-ghost use Rattle.std.specs.Prelude.{◌≡◌, ℕ, ◌≤◌, ◌++◌, IfOk, IfErr};
+ghost use Rattle.std.specs.Prelude.{◌≡◌, ◌<◌, ◌≤◌, ◌++◌, IfOk, IfErr};
 ghost use Rattle.terms.specs.Limits.{last_day};
+ghost use Rattle.amounts.specs.Traces.{entities};
+ghost use Rattle.books.specs.Calls.{account};
 ghost use Rattle.books.specs.Kept.{entry};
-ghost use Rattle.imagebook.specs.Images.{opened};
 ghost use Rattle.accounts.specs.Histories.{History, Accounts, last};
 ghost use Rattle.accounts.specs.Bills.{BilledBetween};
 ghost use Rattle.jobs.specs.Jobs.{job_watched};
-ghost use Rattle.jobs.specs.Refusals.{told as job_told};
 ghost use Rattle.settlement.specs.Tables.{table_of};
-ghost use Rattle.settlement.specs.Refusals.{posting_told};
-ghost use Rattle.settlement.specs.Postings.{job_of, run_of, before_of, bills_of, posted, posted_watched};
-ghost use Rattle.settlement.specs.Lists.{most_places, new_image};
+ghost use Rattle.settlement.specs.Refusals.{answered, posting_told};
+ghost use Rattle.settlement.specs.Postings.{no_bills, job_of, run_of, before_of, bills_of, posted_sound, sound_watched, posted, posted_watched};
+ghost use Rattle.settlement.specs.Accounts.{GoesOn, Begins, BillsDifference};
 
 use crate::bills::{Before, Bills};
 use crate::reading::Reading;
 use crate::refusal::Unposted;
 use amounts::row::Amounts;
+use books::account::Account;
 use books::book::Book;
-use imagebook::fault::ImageFault;
 use imagebook::opening::{Opened, close};
 use intervals::warning::Warning;
 use jobs::job::work_job;
-use jobs::refusal::JobRefusal;
 use jobs::watch::Watch;
 use rounding::rules::HalfAway;
 use terms::question::ENTITIES;
@@ -34,23 +33,32 @@ pub struct Posted {
     pub answer: Result<Bills, Unposted>,
 }
 
+// No amounts for any entity.
+fn no_amounts() -> [Amounts; ENTITIES]
+    ensures { result ≡ no_bills }
+{
+    [Amounts::default(); ENTITIES]
+}
+
+// What a book tells of a day and an entity.
+#[tactic(auto, unfolding(books::specs::Calls::reading))]
+fn account_of<B: Book>(book: &B, day: u32, entity: u32) -> Account
+    requires { entity < entities }
+    ensures { day ≤ last_day → result ≡ account (entry (B.kept book.now) day) entity }
+{
+    book.read(day, entity).unwrap_or_default()
+}
+
 // What a book has of a day.
 fn before<B: Book>(book: &B, day: u32) -> Before
-    ensures { day ≤ last_day → result ≡ before_of (entry (B.Book.kept book.now) day) }
+    ensures { day ≤ last_day → result ≡ before_of (entry (B.kept book.now) day) }
 {
-    let mut before = Before {
-        billed: false,
-        amounts: [Amounts::default(); ENTITIES],
-    };
-    for (entity, amounts) in before.amounts.iter_mut().enumerate() {
-        if let Ok(account) = book.read(day, entity as u32) {
-            *amounts = account.amounts;
-        }
+    let mut amounts = no_amounts();
+    for (entity, row) in amounts.iter_mut().enumerate() {
+        *row = account_of(book, day, entity as u32).amounts;
     }
-    if let Ok(account) = book.read(day, 0) {
-        before.billed = account.billed;
-    }
-    before
+    let billed = account_of(book, day, 0).billed;
+    Before { billed, amounts }
 }
 
 // Works the file's day and posts it to a book.
@@ -59,44 +67,57 @@ fn post_to<B: Book, S: Source, W: Watch>(
     reading: &Reading<'_, S>,
     warnings: &mut [Warning],
     watch: &mut W,
-) -> Result<Bills, JobRefusal>
-    ensures answer { job_told result ≡ bills_of reading.now.file warnings.old (B.Book.kept book.old) }
-    ensures kept { B.Book.kept book.new ≡ (job_of reading.now.file warnings.old (B.Book.kept book.old)).kept }
-    ensures beside { B.Book.beside book.new ≡ B.Book.beside book.old }
-    ensures warnings { warnings.new ≡ (job_of reading.now.file warnings.old (B.Book.kept book.old)).warnings }
-    ensures watch { W.Watch.state watch.new ≡ job_watched W.Watch.told (table_of reading.now.file) reading.now.file.day warnings.old (B.Book.kept book.old) (W.Watch.state watch.old) }
-    ensures unchanged { IfErr result (λ e. B.Book.kept book.new ≡ B.Book.kept book.old) }
-    ensures law { (h : History) → Accounts h (B.Book.kept book.old) → Accounts ((job_of reading.now.file warnings.old (B.Book.kept book.old)).calls ++ h) (B.Book.kept book.new) }
-    ensures difference { (h : History) → Accounts h (B.Book.kept book.old) → IfOk result (λ b. BilledBetween (last h reading.now.file.day) (run_of reading.now.file) b.rows) }
+) -> Result<Bills, Unposted>
+    ensures answer { posting_told result ≡ answered (bills_of reading.now.file warnings.old (B.kept book.old)) }
+    ensures kept { B.kept book.new ≡ (job_of reading.now.file warnings.old (B.kept book.old)).kept }
+    ensures beside { B.beside book.new ≡ B.beside book.old }
+    ensures warnings { warnings.new ≡ (job_of reading.now.file warnings.old (B.kept book.old)).warnings }
+    ensures watch { W.state watch.new ≡ job_watched W.told (table_of reading.now.file) reading.now.file.day warnings.old (B.kept book.old) (W.state watch.old) }
+    ensures unchanged { IfErr result (λ e. B.kept book.new ≡ B.kept book.old) }
+    ensures law { (h : History) → Accounts h (B.kept book.old) → Accounts ((job_of reading.now.file warnings.old (B.kept book.old)).calls ++ h) (B.kept book.new) }
+    ensures difference { (h : History) → Accounts h (B.kept book.old) → IfOk result (λ b. BilledBetween (last h reading.now.file.day) (run_of reading.now.file) b.rows) }
 {
-    let day = reading.day();
+    let day = reading.file.day;
     let before = before(book, day);
-    let mut rows = [Amounts::default(); ENTITIES];
+    let mut rows = no_amounts();
     match work_job(book, day, HalfAway, reading, warnings, &mut rows, watch) {
         Ok(charged) => Ok(Bills {
             charged,
             before,
             rows,
         }),
-        Err(refusal) => Err(refusal),
+        Err(refusal) => Err(Unposted::Job(refusal)),
     }
 }
 
-// Posts to the book of an image, where it is one.
-fn post_unless<B: Book, S: Source, W: Watch>(
-    fault: Option<ImageFault>,
-    book: &mut B,
+// Posts the file's day to the book that the bytes are, where they are one. The file is sound.
+fn post_sound<S: Source, W: Watch>(
+    book: Vec<u8>,
     reading: &Reading<'_, S>,
     warnings: &mut [Warning],
     watch: &mut W,
-) -> Result<Bills, Unposted>
+) -> Posted
+    ensures book { result.book.items ≡ (posted_sound reading.now.file warnings.old book.items).book }
+    ensures answer { posting_told result.answer ≡ (posted_sound reading.now.file warnings.old book.items).answer }
+    ensures warnings { warnings.new ≡ (posted_sound reading.now.file warnings.old book.items).warnings }
+    ensures watch { W.state watch.new ≡ sound_watched reading.now.file warnings.old book.items W.told (W.state watch.old) }
+    ensures unchanged { IfErr result.answer (λ e. result.book.items ≡ book.items) }
+    ensures law { GoesOn (posted_sound reading.now.file warnings.old book.items).calls book.items result.book.items }
+    ensures difference { BillsDifference reading.now.file book.items result.answer }
 {
+    let Opened { mut book, fault } = Opened::new(book);
     match fault {
-        Some(fault) => Err(Unposted::Image(fault)),
-        None => match post_to(book, reading, warnings, watch) {
-            Ok(bills) => Ok(bills),
-            Err(refusal) => Err(Unposted::Job(refusal)),
+        Some(fault) => Posted {
+            book: close(book),
+            answer: Err(Unposted::Image(fault)),
         },
+        None => {
+            let answer = post_to(&mut book, reading, warnings, watch);
+            Posted {
+                book: close(book),
+                answer,
+            }
+        }
     }
 }
 
@@ -112,22 +133,17 @@ pub fn post_file<S: Source, W: Watch>(
     ensures book { result.book.items ≡ (posted reading.now.file warnings.old book.items).book }
     ensures answer { posting_told result.answer ≡ (posted reading.now.file warnings.old book.items).answer }
     ensures warnings { warnings.new ≡ (posted reading.now.file warnings.old book.items).warnings }
-    ensures watch { W.Watch.state watch.new ≡ posted_watched reading.now.file warnings.old book.items W.Watch.told (W.Watch.state watch.old) }
+    ensures watch { W.state watch.new ≡ posted_watched reading.now.file warnings.old book.items W.told (W.state watch.old) }
     ensures unchanged { IfErr result.answer (λ e. result.book.items ≡ book.items) }
-    ensures law { (h : History) → Accounts h (opened book.items) → Accounts ((posted reading.now.file warnings.old book.items).calls ++ h) (opened result.book.items) }
-    ensures new_book { (places : ℕ) → places ≤ most_places → book.items ≡ new_image places → Accounts (posted reading.now.file warnings.old book.items).calls (opened result.book.items) }
-    ensures difference { (h : History) → Accounts h (opened book.items) → IfOk result.answer (λ b. BilledBetween (last h reading.now.file.day) (run_of reading.now.file) b.rows) }
+    ensures law { GoesOn (posted reading.now.file warnings.old book.items).calls book.items result.book.items }
+    ensures new_book { Begins (posted reading.now.file warnings.old book.items).calls book.items result.book.items }
+    ensures difference { BillsDifference reading.now.file book.items result.answer }
 {
-    if let Err(refusal) = reading.verdict() {
-        return Posted {
+    match reading.verdict() {
+        Ok(_) => post_sound(book, reading, warnings, watch),
+        Err(refusal) => Posted {
             book,
             answer: Err(Unposted::File(refusal)),
-        };
-    }
-    let Opened { mut book, fault } = Opened::new(book);
-    let answer = post_unless(fault, &mut book, reading, warnings, watch);
-    Posted {
-        book: close(book),
-        answer,
+        },
     }
 }

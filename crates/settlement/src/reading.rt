@@ -17,11 +17,11 @@ use terms::source::Source;
 // The file, the verdict on it, and a source that answers what the file says of its day. Of another day the source may know nothing.
 #[derive(Drop)]
 pub struct Reading<'a, S: Source> {
-    pub(crate) file: DayFile<'a>,
+    pub file: DayFile<'a>,
     verdict: Result<u32, FileRefusal>,
     source: S,
     ghost checked: { told verdict ≡ checked file.bytes.now },
-    ghost answers: { (d u i : ℕ) → S.Source.table source d u file.day i ≡ asked file.bytes.now d u file.day i },
+    ghost answers: { (d u i : ℕ) → S.table source d u file.day i ≡ asked file.bytes.now d u file.day i },
 }
 
 impl<'a> Reading<'a, FileSource<'a>> {
@@ -53,13 +53,6 @@ impl<'a> Reading<'a, DayTable> {
 }
 
 impl<S: Source> Reading<'_, S> {
-    // The day that the file is read for.
-    pub fn day(&self) -> u32
-        ensures { result ≡ self.now.file.day }
-    {
-        self.file.day
-    }
-
     // How many value lines the file has, or why it is refused.
     pub fn verdict(&self) -> Result<u32, FileRefusal>
         ensures { told result ≡ checked self.now.file.bytes.now }
@@ -72,9 +65,9 @@ impl<S: Source> Source for Reading<'_, S> {
     ghost use Rattle.settlement.specs.Tables.{chosen};
     ghost use Rattle.settlement.specs.TablesKept.{chosen_laws};
 
-    ghost table = { λ r. chosen r.file.fill (S.Source.table r.source) };
+    ghost table = { λ r. chosen r.file.fill (S.table r.source) };
 
-    ghost laws = { chosen_laws (λ r. r.file.fill) (λ r. r.source) S.Source.laws };
+    ghost laws = { chosen_laws (λ r. r.file.fill) (λ r. r.source) S.laws };
 
     // With zero for null, where the file is to be read so.
     fn ask(&self, question: Question) -> Answer {

@@ -20,16 +20,16 @@ pub fn work_file<R: Rounding + Drop, S: Source, W: Watch>(
     warnings: &mut [Warning],
     watch: &mut W,
 ) -> Result<DayRun, Unworked>
-    ensures answer { working_told result ≡ (worked reading.now.file warnings.old (R.Rounding.rounded rule)).answer }
-    ensures warnings { warnings.new ≡ (worked reading.now.file warnings.old (R.Rounding.rounded rule)).warnings }
-    ensures watch { W.Watch.state watch.new ≡ worked_watched reading.now.file warnings.old W.Watch.told (W.Watch.state watch.old) }
-    ensures law { IfOk result (λ r. WorkedBy (run_worked_of reading.now.file warnings.old (R.Rounding.rounded rule)) r.sheet.work) }
+    ensures answer { working_told result ≡ (worked reading.now.file warnings.old (R.rounded rule)).answer }
+    ensures warnings { warnings.new ≡ (worked reading.now.file warnings.old (R.rounded rule)).warnings }
+    ensures watch { W.state watch.new ≡ worked_watched reading.now.file warnings.old W.told (W.state watch.old) }
+    ensures law { IfOk result (λ r. WorkedBy (run_worked_of reading.now.file warnings.old (R.rounded rule)) r.sheet.work) }
 {
-    if let Err(refusal) = reading.verdict() {
-        return Err(Unworked::File(refusal));
-    }
-    match RunDay::try_from(reading.day()) {
-        Ok(day) => Ok(run_day(day, rule, reading, warnings, watch)),
-        Err(refusal) => Err(Unworked::Day(refusal)),
+    match reading.verdict() {
+        Ok(_) => match RunDay::try_from(reading.file.day) {
+            Ok(day) => Ok(run_day(day, rule, reading, warnings, watch)),
+            Err(refusal) => Err(Unworked::Day(refusal)),
+        },
+        Err(refusal) => Err(Unworked::File(refusal)),
     }
 }

@@ -1,0 +1,5 @@
+use Rattle.settlement.proofs.Posted.{postings_begin}
+use Rattle.settlement.proofs.laws.postings_law.Goals as goal
+
+pub returns : goal.returns
+returns c = postings_begin
