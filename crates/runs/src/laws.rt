@@ -23,7 +23,7 @@ pub fn calls_law()
 {}
 
 // Where nothing stops the asking of an interval, all that it needs is there and in its range; and so over a run.
-pub fn asking_law()
+pub fn complete_law()
     ensures interval { (t : Table) (y i : ℕ) → (course t y i).fault ≡ None → Complete t y i entities resources }
     ensures run { (y : ℕ) (ts : List Table) → FaultlessOver y ts → CompleteOver y ts }
 {}

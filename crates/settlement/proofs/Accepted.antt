@@ -9,8 +9,8 @@ use Rattle.terms.specs.Sources.{Table}
 use Rattle.rounding.specs.Rounds.{Lawful}
 use Rattle.amounts.specs.declared.row.Amounts.{Amounts}
 use Rattle.amounts.specs.Triples.{none, plus}
-use Rattle.amounts.specs.Tables.{Judged, working}
-use Rattle.amounts.specs.Traces.{Trace, amount_over, JudgedOver, Accepted, entities, resources}
+use Rattle.amounts.specs.Tables.{working}
+use Rattle.amounts.specs.Traces.{Trace, amount_over, JudgedOver, entities, resources}
 use Rattle.amounts.proofs.Ranged.{fit}
 use Rattle.intervals.specs.declared.warning.Warning.{Warning}
 use Rattle.intervals.specs.Courses.{course}
@@ -26,9 +26,10 @@ use Rattle.books.proofs.Sounds.{put_sound}
 use Rattle.books.proofs.Keeping.{reserving_sound, lifting_sound}
 use Rattle.accounts.specs.declared.refusal.PostRefusal.{PostRefusal}
 use Rattle.accounts.specs.Slips.{given}
+use Rattle.runs.specs.Works.{FaultlessOver}
 use Rattle.runs.specs.Sheets.{Said, said_of, rows_of}
-use Rattle.runs.proofs.Saying.{length_rows, row_of}
 use Rattle.runs.proofs.Asking.{judged_over}
+use Rattle.runs.proofs.Saying.{length_rows, row_of}
 use Rattle.accounts.specs.Postings.{Posted, posting, posted_by, misfit, settled}
 use Rattle.accounts.specs.Histories.{History, Accounts, reserves}
 use Rattle.accounts.proofs.Keeping.{reserve_law, withdraw_law, slip_day}
@@ -49,19 +50,13 @@ module _ (rd : ℤ → ℕ → ℤ) (lawful : Lawful rd) (t : Table) (d : ℕ) w
   turn_faultless : (i rows : ℕ) → turn t d i rows ≡ fine tt → (course t d i).fault ≡ None
   turn_faultless i rows e = grind arith
 
-  faultless_over : (ws : List Warning) (n : ℕ) → (walked t d ws n).told ≡ fine tt → FaultlessOver d (repeated n t)
+  pub run_faultless : (ws : List Warning) (n : ℕ) → (walked t d ws n).told ≡ fine tt → FaultlessOver d (repeated n t)
   unfolding walked FaultlessOver repeated
-  faultless_over ws zero e = tt
-  faultless_over ws (suc n) e =
+  run_faultless ws zero e = tt
+  run_faultless ws (suc n) e =
       let before = step_from t d ws (suc n) (walked t d ws n) (walked t d ws n).told refl e in
       let now = turn_faultless (suc n) _ (sym (ap (λ z. (step_by t d (suc n) (walked t d ws n) z).told) before) ∙ e) in
-      (faultless_over ws n before, subst (λ l. (course t d (suc l)).fault ≡ None) (sym (length_repeated n t)) now)
-
-  pub run_faultless : (ws : List Warning) → (walked t d ws last_interval).told ≡ fine tt → FaultlessOver d (repeated last_interval t)
-  run_faultless ws e = faultless_over ws last_interval e
-
-  run_accepted : FaultlessOver d (repeated last_interval t) → Accepted (run_over d rd last_interval t)
-  run_accepted f = record { lawful = lawful; judged = judged_over d (repeated last_interval t) f }
+      (run_faultless ws n before, subst (λ l. (course t d (suc l)).fault ≡ None) (sym (length_repeated n t)) now)
 
   within_over : (n q : ℕ) → JudgedOver entities resources d (repeated n t) → q < entities → Within n (amount_over rd resources d (repeated n t) q)
   unfolding JudgedOver repeated amount_over
@@ -72,12 +67,12 @@ module _ (rd : ℤ → ℕ → ℤ) (lawful : Lawful rd) (t : Table) (d : ℕ) w
   run : Trace
   run = run_over d rd last_interval t
 
-  module _ (faultless : FaultlessOver d (repeated last_interval t)) where
-    accepted : Accepted (run_over d rd last_interval t)
-    accepted = run_accepted faultless
+  module _ (never : FaultlessOver d (repeated last_interval t)) where
+    judged : JudgedOver entities resources d (repeated last_interval t)
+    judged = judged_over d (repeated last_interval t) never
 
     row_in_range : (q : ℕ) → q < entities → in_range (get_or (rows_of entities (run_over d rd last_interval t)) q none) ≡ true
-    row_in_range q lt = ap in_range (row_of entities q (run_over d rd last_interval t) lt) ∙ range_of _ (within_over last_interval q accepted.judged lt)
+    row_in_range q lt = ap in_range (row_of entities q (run_over d rd last_interval t) lt) ∙ range_of _ (within_over last_interval q judged lt)
 
     rows_in_range : (q : ℕ) → in_range (get_or (rows_of entities (run_over d rd last_interval t)) q none) ≡ true
     rows_in_range q = go (ltb q entities) refl
@@ -90,7 +85,7 @@ module _ (rd : ℤ → ℕ → ℤ) (lawful : Lawful rd) (t : Table) (d : ℕ) w
     place_sound within = record { day = within; taken = refl; long = length_rows entities (run_over d rd last_interval t); ranged = rows_in_range }
 
     pub said_by_run : SaidBy (run_over d rd last_interval t) (said_of (run_over d rd last_interval t))
-    said_by_run = record { day = refl; intervals = refl; totals = λ q lt. row_of entities q (run_over d rd last_interval t) lt; charged = refl; faultless = faultless; accepted = accepted }
+    said_by_run = record { day = refl; intervals = refl; totals = λ q lt. row_of entities q (run_over d rd last_interval t) lt; charged = refl; faultless = never; accepted = record { lawful = lawful; judged = judged } }
 
 -- ---- what a posting leaves
 module _ (k : Kept) (d : ℕ) (s : Said) (bills : List Amounts) (sound : Sound k) (place : SoundPlace (settled d s.totals)) where
@@ -121,10 +116,10 @@ module _ (rd : ℤ → ℕ → ℤ) (lawful : Lawful rd) (t : Table) (d : ℕ) (
       let slip = slip_day d x (reserving k d).answer (sym e) in
       let within = reserved_within k d slip.1 in
       let law = reserved_law (fine d) (e ∙ ap fine slip.0) in
-      let faultless = run_faultless rd lawful t d ws o in
+      let never = run_faultless rd lawful t d ws last_interval o in
       rw (e, o) (record {
-        law = λ h holds. post_law _ d _ bills (reserves d (fine d) ∷ h) (law h holds) after.rising (run_over d rd last_interval t) (said_by_run rd lawful t d faultless);
-        sound = posting_sound _ d _ bills after (place_sound rd lawful t d faultless within);
+        law = λ h holds. post_law _ d _ bills (reserves d (fine d) ∷ h) (law h holds) after.rising (run_over d rd last_interval t) (said_by_run rd lawful t d never);
+        sound = posting_sound _ d _ bills after (place_sound rd lawful t d never within);
       })
   by_walked x (refuse n vs) e o =
       let after = reserving_sound k d sound in

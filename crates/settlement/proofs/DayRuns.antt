@@ -11,12 +11,12 @@ use Rattle.intervals.specs.declared.warning.Warning.{Warning}
 use Rattle.intervals.specs.Courses.{course}
 use Rattle.runs.specs.declared.work.Work.{Work}
 use Rattle.runs.specs.Works.{FaultlessOver, WorkedBy}
+use Rattle.runs.specs.Sheets.{rows_of, said_of}
+use Rattle.runs.proofs.Asking.{complete_over}
 use Rattle.accounts.specs.Postings.{less}
 use Rattle.accounts.specs.Bills.{BilledBetween}
 use Rattle.accounts.specs.Histories.{Latest, Whole, amount_by}
 use Rattle.jobs.specs.Days.{reached, repeated, run_over, run_through}
-use Rattle.runs.specs.Sheets.{rows_of, said_of}
-use Rattle.runs.proofs.Asking.{complete_over}
 use Rattle.jobs.proofs.Walking.{length_repeated}
 use Rattle.settlement.specs.SameDays.{SameDay, SameRun, SameRuns}
 use Rattle.settlement.proofs.DayAsked.{course_same, working_same, judged_same}
@@ -84,7 +84,7 @@ module _ (a b : Trace) (same : SameRun a b) where
   }
 
   pub whole_same : (d : ℕ) → Whole d a → Whole d b
-  whole_same d w = record { same = sym same.day ∙ w.same; long = subst (λ n. last_interval ≤ n) same.intervals w.long; faultless = same.faultless w.faultless; complete = complete_over _ _ (same.faultless w.faultless); accepted = same.accepted w.accepted }
+  whole_same d w = record { same = sym same.day ∙ w.same; long = subst (λ n. last_interval ≤ n) same.intervals w.long; faultless = same.faultless w.faultless; complete = complete_over b.day b.tables (same.faultless w.faultless); accepted = same.accepted w.accepted }
 
   -- a bill between the run posted before and the one now
   pub billed_same : (before : Latest) (bills : List Amounts) → BilledBetween before a bills → BilledBetween before b bills
