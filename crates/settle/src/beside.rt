@@ -70,13 +70,25 @@ impl Beside {
 fn create_held<R: Files<File = File>>(rt: &R, name: &str) -> Result<(File, Inode), BesideFault> {
     clear(rt, name)?;
     let file = create_private(rt, name)?;
+    match hold(rt, name, &file) {
+        Ok(inode) => Ok((file, inode)),
+        Err(fault) => {
+            let _ = take_away(rt, name, &file);
+            Err(fault)
+        }
+    }
+}
+
+// Holds the file that was just made, which the caller alone may open, whatever the mask of permissions.
+fn hold<R: Files>(rt: &R, name: &str, file: &File) -> Result<Inode, BesideFault> {
+    file.try_lock()?;
+    file.set_permissions(Permissions::from_mode(PRIVATE))?;
     let inode = Inode::of(&file.metadata()?);
-    file.try_lock().map_err(NameFault::from)?;
     // Until the lock was granted another call may have taken it for one that was left.
     if !inode.is_named(rt, name) {
         return Err(BesideFault::Name(NameFault::Held));
     }
-    Ok((file, inode))
+    Ok(inode)
 }
 
 fn create_private<R: Files<File = File>>(rt: &R, name: &str) -> Result<File, BesideFault> {
@@ -106,18 +118,27 @@ fn clear<R: Files<File = File>>(rt: &R, name: &str) -> Result<(), BesideFault> {
 fn clear_file<R: Files<File = File>>(rt: &R, name: &str) -> Result<(), NameFault> {
     let opened = OpenOptions::new().read(true).write(true).open(rt, name);
     match opened {
-        Ok(left) => take_away(rt, name, &left),
+        Ok(left) => clear_left(rt, name, &left),
         Err(e) if e.kind() == ErrorKind::NotFound => Ok(()),
         Err(e) => Err(NameFault::Stuck(e)),
     }
 }
 
 // The name is looked at again once the lock is granted: by then another call may have taken it away and made its own.
-fn take_away<R: Files>(rt: &R, name: &str, left: &File) -> Result<(), NameFault> {
+fn clear_left<R: Files>(rt: &R, name: &str, left: &File) -> Result<(), NameFault> {
     left.try_lock()?;
-    let metadata = left.metadata().map_err(NameFault::Stuck)?;
-    if !Inode::of(&metadata).is_named(rt, name) {
-        return Err(NameFault::Held);
+    match take_away(rt, name, left) {
+        Ok(true) => Ok(()),
+        Ok(false) => Err(NameFault::Held),
+        Err(e) => Err(NameFault::Stuck(e)),
     }
-    fs::remove_file(rt, name).map_err(NameFault::Stuck)
+}
+
+// Takes a name away, where it leads to this file.
+fn take_away<R: Files>(rt: &R, name: &str, file: &File) -> io::Result<bool> {
+    if !Inode::of(&file.metadata()?).is_named(rt, name) {
+        return Ok(false);
+    }
+    fs::remove_file(rt, name)?;
+    Ok(true)
 }

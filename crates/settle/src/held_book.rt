@@ -1,10 +1,11 @@
 // A book file that this call holds, from before it is read until the call ends: no other call posts to it meanwhile.
 use crate::beside::Beside;
 use crate::inode::Inode;
-use crate::save::{name_beside, open_folder};
+use crate::load::read_most;
+use crate::save::{check_name, name_beside, open_folder};
 use crate::save_fault::{NameFault, SaveFault};
 use std::fs::{File, Metadata, OpenOptions};
-use std::io::{ErrorKind, Read};
+use std::io::ErrorKind;
 use std::os::unix::fs::MetadataExt;
 use std::rt::Files;
 use std::{fs, io};
@@ -22,14 +23,15 @@ pub(crate) struct HeldBook {
 }
 
 impl HeldBook {
-    // The links of the path are followed once; from then on the file is known by its descriptor, and its name only looked at.
+    // The links of the path are followed once; from then on the file is known by its descriptor, and its name only looked at. The file that is
+    // read for the posting must not stand where the new bytes will.
     pub(crate) fn hold<R: Files<File = File> + AllocGlobal>(
         rt: &R,
         path: &str,
+        read: &str,
     ) -> Result<HeldBook, SaveFault> {
-        let path = fs::canonicalize(rt, path)
-            .map_err(SaveFault::Unread)?
-            .into_string();
+        let path = resolve(rt, path).map_err(SaveFault::Unread)?;
+        check_name(path.as_str())?;
         let folder = open_folder(rt, path.as_str())?;
         let (file, metadata) = hold_named(rt, path.as_str())?;
         let book = HeldBook {
@@ -38,6 +40,9 @@ impl HeldBook {
             file,
             metadata,
         };
+        if book.is_beside(rt, read)? {
+            return Err(SaveFault::ReadBeside);
+        }
         book.keep_one_name(rt)?;
         Ok(book)
     }
@@ -62,12 +67,18 @@ impl HeldBook {
         }
     }
 
-    // The file's bytes, or the first `most + 1`: one more than a book may have tells as much as all.
+    // The file's bytes, as far as they matter.
     pub(crate) fn read<R: AllocGlobal>(&self, rt: &R, most: usize) -> io::Result<Vec<u8>> {
-        let mut bytes = Vec::new(rt.alloc());
-        let enough = (most as u64).saturating_add(1);
-        (&self.file).take(enough).read_to_end(&mut bytes)?;
-        Ok(bytes)
+        read_most(rt, &self.file, most)
+    }
+
+    // Whether a path leads to what has the name of the file beside it.
+    fn is_beside<R: Files + AllocGlobal>(&self, rt: &R, path: &str) -> Result<bool, SaveFault> {
+        let beside = name_beside(rt, self.path.as_str())?;
+        match fs::metadata(rt, path) {
+            Ok(found) => Ok(Inode::of(&found).is_named(rt, beside.as_str())),
+            Err(_) => Ok(false),
+        }
     }
 
     // Makes the file beside it, with the same owner, group and permissions and these bytes, which are stored.
@@ -103,6 +114,8 @@ impl HeldBook {
         match fs::rename(rt, beside.name(), path) {
             // A system that lost only its own answer has done it all the same.
             Err(e) if !beside.inode().is_named(rt, path) => Err(SaveFault::Unplaced(e)),
+            // Whoever may write in the folder can have moved the file beside it just before.
+            Ok(()) if !beside.inode().is_named(rt, path) => Err(SaveFault::Moved),
             _ => Ok(()),
         }
     }
@@ -110,6 +123,16 @@ impl HeldBook {
     // Has the new name stored, so that it outlasts a loss of power.
     pub(crate) fn sync_folder(&self) -> Result<(), SaveFault> {
         self.folder.sync_all().map_err(SaveFault::Unsettled)
+    }
+}
+
+// Where a path leads, whatever its links. A folder above it may have a name that is no UTF-8 text, or not let the caller look at it; a path
+// that is no link goes as it is then.
+fn resolve<R: Files + AllocGlobal>(rt: &R, path: &str) -> io::Result<String> {
+    match fs::canonicalize(rt, path) {
+        Ok(real) => Ok(real.into_string()),
+        Err(e) if fs::symlink_metadata(rt, path).is_ok_and(|found| found.is_symlink()) => Err(e),
+        Err(_) => Ok(String::from_str(rt.alloc(), path)?),
     }
 }
 

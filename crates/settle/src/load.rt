@@ -26,10 +26,17 @@ impl<R: Files + Print + Eprint + AllocGlobal> Console<'_, R> {
     }
 }
 
-// The file's bytes, or the first `most + 1`: one more than it may have tells as much as all.
 fn read<R: Files + AllocGlobal>(rt: &R, path: &str, most: usize) -> io::Result<Vec<u8>> {
+    read_most(rt, File::open(rt, path)?, most)
+}
+
+// The file's bytes, or the first `most + 1`: one more than it may have tells as much as all.
+pub(crate) fn read_most<R: AllocGlobal, F: Read + Drop>(
+    rt: &R,
+    file: F,
+    most: usize,
+) -> io::Result<Vec<u8>> {
     let mut bytes = Vec::new(rt.alloc());
-    let file = File::open(rt, path)?;
     let enough = (most as u64).saturating_add(1);
     file.take(enough).read_to_end(&mut bytes)?;
     Ok(bytes)

@@ -70,11 +70,10 @@ fn run<R: Runtime + Files<File = File> + AllocGlobal>(
 fn hold_streams<R: Files<File = File> + AllocGlobal>(rt: &R) -> anyhow::Result<Vec<File>> {
     let mut held = Vec::new(rt.alloc());
     for _ in 0..STREAMS {
-        let folder = File::open(rt, "/")?;
-        if folder.as_raw_fd() >= STREAMS {
-            break;
+        match File::open(rt, "/") {
+            Ok(folder) if folder.as_raw_fd() < STREAMS => held.push(folder)?,
+            _ => break,
         }
-        held.push(folder)?;
     }
     Ok(held)
 }

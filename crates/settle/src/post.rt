@@ -31,6 +31,7 @@ const EXAMPLE: &str = "settle post book.bin 7 day.txt";
 struct Posting<'a> {
     book: &'a str,
     day: u16,
+    file: &'a str,
     options: Options,
 }
 
@@ -46,7 +47,7 @@ impl<R: Files<File = File> + Clock + Print + Eprint + AllocGlobal> Console<'_, R
         &self,
         book: &str,
         day: &str,
-        path: &str,
+        file: &str,
         words: &[&str],
     ) -> anyhow::Result<bool> {
         let (number, read) = match day_and_options(Command::Post, day, words, EXAMPLE) {
@@ -55,13 +56,18 @@ impl<R: Files<File = File> + Clock + Print + Eprint + AllocGlobal> Console<'_, R
         };
         let options = read.options;
         match u16::try_from(number) {
-            Ok(day) => self.post_path(Posting { book, day, options }, path),
+            Ok(day) => self.post_path(Posting {
+                book,
+                day,
+                file,
+                options,
+            }),
             Err(_) => self.say_day_refused(day, BookRefusal::OutOfRange.number()),
         }
     }
 
-    fn post_path(&self, posting: Posting<'_>, path: &str) -> anyhow::Result<bool> {
-        let Some(bytes) = self.load(path)? else {
+    fn post_path(&self, posting: Posting<'_>) -> anyhow::Result<bool> {
+        let Some(bytes) = self.load(posting.file)? else {
             return Ok(false);
         };
         let file = DayFile {
@@ -70,10 +76,10 @@ impl<R: Files<File = File> + Clock + Print + Eprint + AllocGlobal> Console<'_, R
             fill: posting.options.fill,
         };
         if posting.options.direct {
-            self.post_reading(posting, path, &Reading::direct(file))
+            self.post_reading(posting, &Reading::direct(file))
         } else {
             let room = Room::new(self.rt.alloc())?;
-            self.post_reading(posting, path, &Reading::tabled(room, file))
+            self.post_reading(posting, &Reading::tabled(room, file))
         }
     }
 
@@ -81,11 +87,10 @@ impl<R: Files<File = File> + Clock + Print + Eprint + AllocGlobal> Console<'_, R
     fn post_reading<S: Source>(
         &self,
         posting: Posting<'_>,
-        path: &str,
         reading: &Reading<'_, S>,
     ) -> anyhow::Result<bool> {
         let verdict = reading.verdict();
-        self.say_verdict(path, reading.file.bytes, verdict)?;
+        self.say_verdict(posting.file, reading.file.bytes, verdict)?;
         if verdict.is_err() {
             return Ok(false);
         }
@@ -99,7 +104,7 @@ impl<R: Files<File = File> + Clock + Print + Eprint + AllocGlobal> Console<'_, R
         reading: &Reading<'_, S>,
     ) -> anyhow::Result<bool> {
         let path = Printable(posting.book);
-        let book = match HeldBook::hold(self.rt, posting.book) {
+        let book = match HeldBook::hold(self.rt, posting.book, posting.file) {
             Ok(book) => book,
             Err(fault) => return self.refuse(format_args!("{path}: {fault}")),
         };

@@ -7,6 +7,9 @@ use std::io::ErrorKind;
 use std::path::Path;
 use std::rt::Files;
 
+// What follows the name of a book in that of the file beside it.
+const BESIDE: &str = ".new";
+
 // Saves a file where nothing is, for the caller alone to read and write. Something that comes to be there meanwhile is not replaced either: a
 // second name for the written file is made, which the system does only where there is nothing.
 pub(crate) fn save_new<R: Files<File = File> + AllocGlobal>(
@@ -14,6 +17,7 @@ pub(crate) fn save_new<R: Files<File = File> + AllocGlobal>(
     path: &str,
     bytes: &[u8],
 ) -> Result<(), SaveFault> {
+    check_name(path)?;
     if fs::symlink_metadata(rt, path).is_ok() {
         return Err(SaveFault::Taken);
     }
@@ -40,8 +44,18 @@ fn place_new<R: Files>(rt: &R, beside: &Beside, path: &str, bytes: &[u8]) -> Res
     }
 }
 
+// What a path has to be called so that a file can stand beside it. One that itself ends in `.new` could be taken for what a call left beside
+// another book, and be taken away.
+pub(crate) fn check_name(path: &str) -> Result<(), SaveFault> {
+    match Path::new(path).file_name() {
+        None => Err(SaveFault::Nameless),
+        Some(name) if name.ends_with(BESIDE) => Err(SaveFault::Reserved),
+        Some(_) => Ok(()),
+    }
+}
+
 pub(crate) fn name_beside<R: AllocGlobal>(rt: &R, path: &str) -> Result<String, SaveFault> {
-    format!(in rt.alloc(); "{path}.new").map_err(|e| SaveFault::Unwritten(e.into()))
+    format!(in rt.alloc(); "{path}{BESIDE}").map_err(|e| SaveFault::Unwritten(e.into()))
 }
 
 // The folder of a path, open, so that it can be synced once the name is given.

@@ -8,18 +8,26 @@ use std::{fmt, io};
 pub(crate) enum SaveFault {
     // A new file was wanted, and there is something at its path.
     Taken,
+    // The path ends in no name of a file.
+    Nameless,
+    // The name is one that the file beside a book would have.
+    Reserved,
     // The path leads to nothing that can be read.
     Unread(io::Error),
     // The path leads to a folder, a pipe or a device.
     NoFile,
     // The file may not be written.
     Unwritable(io::Error),
+    // The system gives no lock on the file, or on the one beside it.
+    Unlocked(io::Error),
     // Another call holds the file.
     Held,
     // Each time the file was opened another call had replaced it by then.
     Replaced,
     // The file has so many names, of which a new file could take only one.
     Names(u64),
+    // The file that is read for a posting has the name of the file beside it.
+    ReadBeside,
     // The name of the file beside it, and what is wrong there.
     Name(String, NameFault),
     // The file beside it could not be made or written.
@@ -49,7 +57,7 @@ impl From<TryLockError> for SaveFault {
     fn from(error: TryLockError) -> SaveFault {
         match error {
             TryLockError::WouldBlock => SaveFault::Held,
-            TryLockError::Error(e) => SaveFault::Unwritable(e),
+            TryLockError::Error(e) => SaveFault::Unlocked(e),
         }
     }
 }
@@ -58,7 +66,17 @@ impl From<TryLockError> for SaveFault {
 #[derive(Drop)]
 pub(crate) enum BesideFault {
     Name(NameFault),
+    Unlocked(io::Error),
     Unwritten(io::Error),
+}
+
+impl From<TryLockError> for BesideFault {
+    fn from(error: TryLockError) -> BesideFault {
+        match error {
+            TryLockError::WouldBlock => BesideFault::Name(NameFault::Held),
+            TryLockError::Error(e) => BesideFault::Unlocked(e),
+        }
+    }
 }
 
 impl From<NameFault> for BesideFault {
@@ -78,6 +96,7 @@ impl BesideFault {
     pub(crate) fn of(self, name: String) -> SaveFault {
         match self {
             BesideFault::Name(fault) => SaveFault::Name(name, fault),
+            BesideFault::Unlocked(e) => SaveFault::Unlocked(e),
             BesideFault::Unwritten(e) => SaveFault::Unwritten(e),
         }
     }
@@ -96,9 +115,14 @@ impl fmt::Display for SaveFault {
     fn fmt<W: fmt::Write>(&self, f: &mut fmt::Formatter<W>) -> fmt::Result {
         match self {
             SaveFault::Taken => f.write_str("there is something already, and it is left as it is"),
+            SaveFault::Nameless => f.write_str("this is no name of a file"),
+            SaveFault::Reserved => f.write_str(
+                "a name that ends in .new is that of the file beside a book; take another",
+            ),
             SaveFault::Unread(e) => write!(f, "cannot be read: {e}"),
             SaveFault::NoFile => f.write_str("is no file, but a folder, a pipe or a device"),
             SaveFault::Unwritable(e) => write!(f, "cannot be opened for writing: {e}"),
+            SaveFault::Unlocked(e) => write!(f, "cannot be locked: {e}"),
             SaveFault::Held => f.write_str(
                 "another call is at work on it; try again once that has ended",
             ),
@@ -106,6 +130,9 @@ impl fmt::Display for SaveFault {
             SaveFault::Names(count) => write!(
                 f,
                 "the file has {count} names, and only one of them would get the new bytes; take the others away first"
+            ),
+            SaveFault::ReadBeside => f.write_str(
+                "the determinant file has this name with .new after it, where the new bytes go; give it another",
             ),
             SaveFault::Name(name, fault) => {
                 let name = Printable(name.as_str());
