@@ -67,8 +67,7 @@ impl<R: Files<File = File> + Clock + Print + Eprint + AllocGlobal> Console<'_, R
     }
 
     fn post_path(&self, posting: Posting<'_>) -> anyhow::Result<bool> {
-        let path = posting.file;
-        let Some(bytes) = self.load(path)? else {
+        let Some(bytes) = self.load(posting.file)? else {
             return Ok(false);
         };
         let file = DayFile {
@@ -77,10 +76,10 @@ impl<R: Files<File = File> + Clock + Print + Eprint + AllocGlobal> Console<'_, R
             fill: posting.options.fill,
         };
         if posting.options.direct {
-            self.post_reading(posting, path, &Reading::direct(file))
+            self.post_reading(posting, &Reading::direct(file))
         } else {
             let room = Room::new(self.rt.alloc())?;
-            self.post_reading(posting, path, &Reading::tabled(room, file))
+            self.post_reading(posting, &Reading::tabled(room, file))
         }
     }
 
@@ -88,11 +87,10 @@ impl<R: Files<File = File> + Clock + Print + Eprint + AllocGlobal> Console<'_, R
     fn post_reading<S: Source>(
         &self,
         posting: Posting<'_>,
-        path: &str,
         reading: &Reading<'_, S>,
     ) -> anyhow::Result<bool> {
         let verdict = reading.verdict();
-        self.say_verdict(path, reading.file.bytes, verdict)?;
+        self.say_verdict(posting.file, reading.file.bytes, verdict)?;
         if verdict.is_err() {
             return Ok(false);
         }
