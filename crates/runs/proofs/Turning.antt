@@ -55,3 +55,7 @@ worked_is rd t y i rows w by n = grind arith
 -- the answer of a call that stops, as the call's own facts have it
 pub stop_told : (rd : ℤ → ℕ → ℤ) (t : Table) (stopped : Bool) (w : Work) (i : ℕ) (ws : List Warning) (s : Stop) → stopped ≡ false → is_due w i ≡ true → warning_rows ≤ length ws → Some s ≡ stop_of w.day i (course t w.day i) → stop_numbered s ≡ answering rd t stopped w i (length ws)
 stop_told rd t stopped w i ws s on due room e = refusing_is t stopped w i ws on due room rd s e
+
+-- the list of warnings after a call that asks, as the call's own facts have it
+pub rows_told : (vs ws : List Warning) (t : Table) (stopped : Bool) (w : Work) (i : ℕ) → stopped ≡ false → is_due w i ≡ true → warning_rows ≤ length ws → length (course t w.day i).rows ≤ warning_rows → vs ≡ in_front (course t w.day i).rows (take warning_rows ws) → vs ++ drop warning_rows ws ≡ warned t stopped w i ws
+rows_told vs ws t stopped w i on due room few e = warned_is t stopped w i ws on due room (take warning_rows ws) vs refl few e

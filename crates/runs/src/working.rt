@@ -53,7 +53,7 @@ impl<R: Rounding> Run<R> {
     // Works an interval over a source. An accepted one is added to the totals; a refused one leaves them and the interval due, and
     // where something asked for is missing or out of range, it stops the run. The list has at least `WARNING_ROWS` rows; those written
     // stand at its front.
-    #[tactic(auto, using(crate::proofs::Turning::stop_told))]
+    #[tactic(auto, using(crate::proofs::Turning::stop_told, crate::proofs::Turning::rows_told))]
     pub fn interval<S: Source>(
         &mut self,
         source: &S,

@@ -5,7 +5,7 @@ use Rattle.amounts.specs.Tables.{Judged}
 use Rattle.intervals.specs.Courses.{course}
 use Rattle.runs.specs.Turns.{is_due}
 use Rattle.runs.proofs.Growing.{rows_within, charged_few, rows_balanced, grows, worked_more}
-use Rattle.runs.proofs.Turning.{due_parts, no_fault, warned_is, stopping_is, answering_is, worked_is}
+use Rattle.runs.proofs.Turning.{due_parts, no_fault, stopping_is, answering_is, worked_is}
 use Rattle.runs.proofs.Wording.{stop_names, asking_front, turn_worked, turn_stops}
 use Rattle.runs.proofs.run.Run.interval.Goals as goal
 
@@ -62,16 +62,6 @@ returns-in-Ok-clause-answer g c =
     let first = c.in-Some.ensures.cases in
     ap fine (worked_is rd t w.day i s.rows s.worked said.settled said.counted) ∙ answering_is t c.args.self.now.stopped w i c.args.warnings.now c.if-self.false due first.enough rd (no_fault w.day i (course t w.day i) said.stop)
 
-pub returns-in-Ok-clause-warnings : goal.returns-in-Ok-clause-warnings
-returns-in-Ok-clause-warnings g c =
-    let t : Table = g.S.Source.table c.args.source.now in
-    let w = c.args.self.now.work in
-    let i = c.args.interval in
-    let said = c.in-Ok.ensures in
-    let due : is_due w i ≡ true = sym c.is_due.ensures ∙ c.if-not-is_due.false in
-    let first = c.in-Some.ensures.cases in
-    warned_is t c.args.self.now.stopped w i c.args.warnings.now c.if-self.false due first.enough c.in-Some.rows.now c.work_interval.new.warnings first.same said.few said.warnings
-
 pub returns-in-Ok-clause-work : goal.returns-in-Ok-clause-work
 returns-in-Ok-clause-work g c =
     let rd : ℤ → ℕ → ℤ = g.R.Rounding.rounded c.args.self.now.rule in
@@ -110,16 +100,6 @@ returns-in-Err-clause-words g c =
     rw c.halt.ensures.refusal (
     turn_stops t c.args.self.now.stopped w i c.args.warnings.now _ c.if-self.false due first.enough c.in-Err.stop names.1
     (asking_front t w.day i (course t w.day i).rows c.in-Some.rows.now c.work_interval.new.warnings _ c.in-Err.stop.warnings (Some c.in-Err.stop.fault) said.warnings names.0 said.words))
-
-pub returns-in-Err-clause-warnings : goal.returns-in-Err-clause-warnings
-returns-in-Err-clause-warnings g c =
-    let t : Table = g.S.Source.table c.args.source.now in
-    let w = c.args.self.now.work in
-    let i = c.args.interval in
-    let said = c.in-Err.ensures in
-    let due : is_due w i ≡ true = sym c.is_due.ensures ∙ c.if-not-is_due.false in
-    let first = c.in-Some.ensures.cases in
-    warned_is t c.args.self.now.stopped w i c.args.warnings.now c.if-self.false due first.enough c.in-Some.rows.now c.work_interval.new.warnings first.same said.few said.warnings
 
 pub returns-in-Err-clause-stopped : goal.returns-in-Err-clause-stopped
 returns-in-Err-clause-stopped g c =
