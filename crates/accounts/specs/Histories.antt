@@ -5,10 +5,12 @@ use Rattle.terms.specs.Limits.{last_day, last_interval}
 use Rattle.amounts.specs.declared.row.Amounts.{Amounts}
 use Rattle.amounts.specs.Sums.{sum_to}
 use Rattle.amounts.specs.Triples.{none, plus, net}
-use Rattle.amounts.specs.Traces.{Trace, amount, shares, Accepted}
+use Rattle.amounts.specs.Traces.{Trace, amount, shares, entities, Accepted}
 use Rattle.runs.specs.Works.{FaultlessOver, CompleteOver}
 use Rattle.books.specs.declared.account.Account.{Account}
 use Rattle.books.specs.declared.refusal.BookRefusal.{BookRefusal}
+use Rattle.books.specs.declared.refusal.BookRefusal.TheVariants.{NotReserved}
+use Rattle.books.specs.Refusals.{number_of}
 use Rattle.books.specs.Kept.{Kept, entry}
 use Rattle.books.specs.Calls.{reading}
 
@@ -124,7 +126,7 @@ pub record Accounts (h : History) (k : Kept) : Type 0 where
   -- and those are the charged shares of that run
   pub answered_is : (d : ℕ) → answered h d ≡ shares_by (last h d)
   -- a day reads as reserved, of whichever entity it is read, just where one slip for it is out, and there is never more than one
-  pub slip_out : (d q : ℕ) → q < 64 → out h d ≡ cond (reads_reserved (reading k d q)) 1 0
+  pub slip_out : (d q : ℕ) → q < entities → out h d ≡ cond (reads_reserved (reading k d q)) 1 0
   -- the run last posted for a day is a whole run of that day
   pub whole : (d : ℕ) → WholeBy d (last h d)
   -- the book keeps what was billed, and whether anything was
@@ -140,4 +142,4 @@ SlipOut h d = out h d ≡ 1
 -- the call did not answer that the day is not reserved
 abbrev pub Known : {X : Type 0} → Told X → Type 0
 Known (fine x) = Unit {0}
-Known (refuse n vs) = n ≡ 17 → ⊥
+Known (refuse n vs) = n ≡ number_of NotReserved → ⊥

@@ -50,9 +50,10 @@ impl<R: Rounding> Run<R> {
         IntervalRefusal::Halted(stop)
     }
 
-    // Works an interval over a source. An accepted one is added to the totals; a refused one leaves them and the interval due, and
-    // where something asked for is missing or out of range, it stops the run. The list has at least `WARNING_ROWS` rows; those written
-    // stand at its front.
+    // Works an interval over a source. Refused, in this order, where the run has stopped, where the interval is not the next one, and where
+    // the list of warnings has fewer than `WARNING_ROWS` rows; else the rows that are written stand at its front. An accepted interval is added
+    // to the totals; a refused one leaves them and the interval due, and where something asked for is missing or out of range, or the shares do
+    // not come to the whole, it stops the run.
     #[tactic(auto, using(crate::proofs::Turning::stop_told, crate::proofs::Turning::rows_told))]
     pub fn interval<S: Source>(
         &mut self,
