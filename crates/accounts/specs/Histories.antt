@@ -120,9 +120,9 @@ reads_reserved (Err e) = false
 -- THE LAW OF ACCOUNTS, between what was called on a book and what it keeps
 pub record Accounts (h : History) (k : Kept) : Type 0 where
   -- the bills of a day add up, for each entity and charge type, to its amounts by the formulas over the sources of the run last posted
-  pub issued_is : (d q : ℕ) → q < 64 → issued h d q ≡ amount_by (last h d) q
+  pub issued_is : (d q : ℕ) → q < entities → issued h d q ≡ amount_by (last h d) q
   -- all bills of a day together miss zero by at most half a cent for each charged share that its last posting answered
-  pub bounded : (d : ℕ) → 2 * unsigned_abs (sum_to 64 (λ q. net (issued h d q))) ≤ answered h d
+  pub bounded : (d : ℕ) → 2 * unsigned_abs (sum_to entities (λ q. net (issued h d q))) ≤ answered h d
   -- and those are the charged shares of that run
   pub answered_is : (d : ℕ) → answered h d ≡ shares_by (last h d)
   -- a day reads as reserved, of whichever entity it is read, just where one slip for it is out, and there is never more than one
@@ -130,7 +130,7 @@ pub record Accounts (h : History) (k : Kept) : Type 0 where
   -- the run last posted for a day is a whole run of that day
   pub whole : (d : ℕ) → WholeBy d (last h d)
   -- the book keeps what was billed, and whether anything was
-  pub kept : (d q : ℕ) → q < 64 → slice_index_or (entry k d).amounts q none ≡ issued h d q
+  pub kept : (d q : ℕ) → q < entities → slice_index_or (entry k d).amounts q none ≡ issued h d q
   pub marked : (d : ℕ) → (entry k d).billed ≡ is_run (last h d)
   -- no day is reserved that cannot be read
   pub within : (d : ℕ) → (entry k d).reserved ≡ true → d ≤ last_day

@@ -1,13 +1,14 @@
 -- A run by the calls that are made on it, accepted or refused, the newest first. Assumes nothing.
-use Rattle.std.specs.Prelude.{◌≡◌, ℕ, zero, suc, Bool, true, false, List, [], ◌∷◌, length, ℤ, Some, None, Option}
+use Rattle.std.specs.Prelude.{◌≡◌, ℕ, zero, suc, Bool, true, false, List, [], ◌∷◌, length, ℤ, Some, None, Option, Result}
 use Rattle.terms.specs.Sources.{Table}
 use Rattle.rounding.specs.Rounds.{Lawful}
 use Rattle.amounts.specs.Traces.{Trace}
 use Rattle.intervals.specs.declared.fault.Fault.{Fault}
+use Rattle.intervals.specs.declared.interval.Worked.{Worked}
 use Rattle.intervals.specs.Courses.{course}
 use Rattle.runs.specs.declared.refusal.IntervalRefusal.{IntervalRefusal}
 use Rattle.runs.specs.declared.work.Work.{Work}
-use Rattle.runs.specs.Turns.{barred_after}
+use Rattle.runs.specs.Turns.{told, answering, stopping, extended, barred_after}
 use Rattle.runs.specs.Works.{WorkedBy, traced}
 
 -- a call for an interval: which one is asked for, the table of the source handed to it, and how many rows its list of warnings has
@@ -55,6 +56,14 @@ trace_of r = traced r.day r.rule (progress r.day r.calls).tables
 pub record CalledOn (y : ℕ) (rounded : ℤ → ℕ → ℤ) (cs : List IntervalCall) (stopped : Bool) (w : Work) : Type 0 where
   pub stops : stopped ≡ (progress y cs).stopped
   pub works : WorkedBy (traced y rounded (progress y cs).tables) w
+
+-- one call more, by what a call for an interval says of its answer, of whether the run has stopped, and of what was worked
+abbrev pub CalledMore : ℕ → (ℤ → ℕ → ℤ) → List IntervalCall → IntervalCall → Type 0
+CalledMore y rounded cs c =
+    (stopped : Bool) (w v : Work) (r : Result Worked IntervalRefusal) → CalledOn y rounded cs stopped w
+    → told r ≡ answering rounded c.table stopped w c.interval c.rows
+    → WorkedBy (traced y rounded (extended r c.table (progress y cs).tables)) v
+    → CalledOn y rounded (c ∷ cs) (stopping c.table stopped w c.interval c.rows) v
 
 -- calls for the intervals 1 to n in their order, over one source
 unfoldable pub in_order : Table → ℕ → ℕ → List IntervalCall

@@ -1,23 +1,20 @@
 // What holds of every run: the check asks for the proofs here.
-ghost use Rattle.std.specs.Prelude.{◌≡◌, ℕ, ◌≤◌, Bool, false, List, [], ◌∷◌, length, ℤ, None, Result};
+ghost use Rattle.std.specs.Prelude.{◌≡◌, ℕ, ◌≤◌, false, List, [], length, ℤ, None};
 ghost use Rattle.terms.specs.Limits.{last_day, last_interval};
 ghost use Rattle.terms.specs.Sources.{Table, SourceLaws};
 ghost use Rattle.amounts.specs.Tables.{Complete};
 ghost use Rattle.amounts.specs.Traces.{entities, resources};
 ghost use Rattle.intervals.specs.Courses.{course};
-ghost use Rattle.intervals.specs.declared.interval.Worked.{Worked};
-ghost use Rattle.runs.specs.declared.refusal.IntervalRefusal.{IntervalRefusal};
 ghost use Rattle.runs.specs.declared.work.Work.{Work};
-ghost use Rattle.runs.specs.Turns.{told, answering, stopping, extended};
 ghost use Rattle.runs.specs.Works.{WorkedBy, traced, FaultlessOver, CompleteOver};
 ghost use Rattle.runs.specs.Example.{example, Day, DayRun};
-ghost use Rattle.runs.specs.Calls.{IntervalCall, progress, CalledOn};
+ghost use Rattle.runs.specs.Calls.{IntervalCall, progress, CalledOn, CalledMore};
 
-// What the calls on a run come to, call by call, is what the contracts of opening a run and of working an interval say: `result`, `stopped` and
-// the law of the run are those of `Run::interval`, whatever was called before.
+// What the calls on a run come to, call by call, is what the contracts of opening a run and of working an interval say: the answer, whether the
+// run has stopped and the law of the run are those of `Run::interval`, whatever was called before.
 pub fn calls_law()
     ensures opened { (y : ℕ) (rounded : ℤ → ℕ → ℤ) (w : Work) → WorkedBy (traced y rounded []) w → CalledOn y rounded [] false w }
-    ensures called { (y : ℕ) (rounded : ℤ → ℕ → ℤ) (cs : List IntervalCall) (c : IntervalCall) (stopped : Bool) (w v : Work) (result : Result Worked IntervalRefusal) → CalledOn y rounded cs stopped w → told result ≡ answering rounded c.table stopped w c.interval c.rows → WorkedBy (traced y rounded (extended result c.table (progress y cs).tables)) v → CalledOn y rounded (c ∷ cs) (stopping c.table stopped w c.interval c.rows) v }
+    ensures called { (y : ℕ) (rounded : ℤ → ℕ → ℤ) (cs : List IntervalCall) (c : IntervalCall) → CalledMore y rounded cs c }
     ensures few { (y : ℕ) (cs : List IntervalCall) → length (progress y cs).tables ≤ last_interval }
     ensures faultless { (y : ℕ) (cs : List IntervalCall) → FaultlessOver y (progress y cs).tables }
 {}
