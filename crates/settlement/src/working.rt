@@ -14,7 +14,8 @@ use runs::day::RunDay;
 use terms::source::Source;
 
 // Works the intervals of the file's day in order, under a rule, until one is refused; the answer has the sheet of those that were worked, and why
-// the next one was not. The list of warnings needs 256 rows, and the watch is told of each interval that is worked.
+// the next one was not. The list of warnings needs 256 rows, and the watch is told of each interval that is worked. Refused where the file is, and
+// with 7 where the day is past 65,535; nothing is worked then.
 pub fn work_file<R: Rounding + Drop, S: Source, W: Watch>(
     reading: &Reading<'_, S>,
     rule: R,
