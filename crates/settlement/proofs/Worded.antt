@@ -1,9 +1,9 @@
 -- What the posting of a file comes to.
-use Rattle.std.proofs.Common.{◌≡◌, ◌⊎◌, ℕ, zero, suc, ◌<◌, ◌≤◌, true, false, nat_lt, List, ◌++◌, length, drop, Ok, Err, None, Result, Some, Option, ℤ, slice_index, refl, sym, ap, ◌∙◌, subst, arith}
+use Rattle.std.proofs.Common.{◌≡◌, ◌⊎◌, ℕ, zero, suc, ◌<◌, ◌≤◌, Bool, true, false, nat_lt, ltb, List, length, drop, Ok, Err, None, Result, ℤ, refl, sym, ap, ◌∙◌, subst, arith, inl, inr}
 use Rattle.std.proofs.lemmas.Bool.{cond_both}
 use Rattle.std.proofs.lemmas.List.{length-drop, length-append, length-replicate}
 use Rattle.terms.specs.Told.{Told, fine, refuse}
-use Rattle.terms.specs.Limits.{last_day, last_interval}
+use Rattle.terms.specs.Limits.{last_interval}
 use Rattle.terms.specs.Sources.{Table}
 use Rattle.rounding.specs.Rounds.{half_away}
 use Rattle.rounding.specs.RoundsKept.{away_near}
@@ -21,29 +21,28 @@ use Rattle.books.specs.Places.{marked}
 use Rattle.books.specs.Kept.{Kept, entry, holds}
 use Rattle.books.specs.Calls.{reserving, lifting}
 use Rattle.books.specs.Laws.{Sound, Changed}
-use Rattle.books.specs.Refusals.{numbered as book_numbered}
 use Rattle.books.proofs.Reserving.{reserves}
 use Rattle.imagebook.specs.declared.fault.ImageFault.{ImageFault}
 use Rattle.imagebook.specs.Images.{image_read, opened, image_of}
 use Rattle.imagebook.proofs.Imaging.{imaged, read_exact, read_sound}
 use Rattle.accounts.specs.declared.refusal.PostRefusal.{PostRefusal}
 use Rattle.accounts.specs.declared.refusal.PostRefusal.TheVariants.{NotReserved as NoReservation, OtherDay, TooShort, FewRows}
-use Rattle.accounts.specs.Refusals.{numbered as post_numbered, told as post_told}
+use Rattle.accounts.specs.Refusals.{told as post_told}
 use Rattle.accounts.specs.Slips.{given}
 use Rattle.accounts.specs.Postings.{posting, settled, billed}
 use Rattle.accounts.proofs.Wording.{posts}
-use Rattle.jobs.specs.Days.{turn, walked, repeated, run_over, noted}
+use Rattle.jobs.specs.Days.{turn, step_by, walked, repeated, run_over, noted}
 use Rattle.jobs.specs.Jobs.{job}
-use Rattle.jobs.proofs.Walking.{length_repeated}
-use Rattle.jobs.proofs.Restoring.{not_reserved, withdrawn, not_posted}
+use Rattle.jobs.proofs.Walking.{length_repeated, step_from}
+use Rattle.jobs.proofs.Restoring.{withdrawn, not_posted}
 use Rattle.settlement.specs.declared.dayfile.DayFile.{DayFile}
-use Rattle.settlement.specs.declared.bills.Before.{Before}
 use Rattle.settlement.specs.declared.bills.Bills.{Bills}
 use Rattle.settlement.specs.Tables.{table_of}
-use Rattle.settlement.specs.Refusals.{Ended, answered, no_book}
-use Rattle.settlement.specs.Postings.{no_bills, job_of, run_of, before_of, bills_by, bills_of, left, done, posted_sound, posted}
+use Rattle.settlement.specs.Refusals.{answered, no_book}
+use Rattle.settlement.specs.Postings.{no_bills, job_of, run_of, before_of, bills_by, bills_of, left, done, posted}
 use Rattle.settlement.specs.Words.{AreBytes, Ready, due, PostsFile}
 use Rattle.settlement.proofs.Accepted.{job_goes}
+use Rattle.settlement.proofs.Billed.{reserved_within}
 use Rattle.settlement.proofs.Opened.{sound_broken, sound_done, posted_checked}
 
 -- one change of a day after another of it is a change of it
@@ -79,6 +78,48 @@ clear t y ws never (suc n) le room =
       is = rw b.is (ap (λ z. record { told = z; warnings = noted t y (suc n) b.rows }) (turn_fine t y (suc n) (length b.rows) b.room (never (suc n) (omega arith) le)));
       room = noted_room t y (suc n) b.rows b.room;
     }
+
+-- and the other way round
+turn_faultless : (t : Table) (y i rows : ℕ) → turn t y i rows ≡ fine tt → (course t y i).fault ≡ None
+turn_faultless t y i rows e = grind arith
+
+turn_room : (t : Table) (y i rows : ℕ) → turn t y i rows ≡ fine tt → warning_rows ≤ rows
+turn_room t y i rows e = grind arith
+
+or_last : (P : ℕ → Type 0) (n i : ℕ) → i ≤ suc n → (i ≤ n → P i) → P (suc n) → P i
+or_last P n i le below last = go (ltb n i) refl
+  where
+    go : (b : Bool) → ltb n i ≡ b → P i
+    go true is = let same : suc n ≡ i = grind arith in subst P same last
+    go false is = below (grind arith)
+
+room_of : (t : Table) (y : ℕ) (ws : List Warning) (n : ℕ) → (walked t y ws (suc n)).told ≡ fine tt → warning_rows ≤ length ws
+unfolding walked
+room_of t y ws zero e = turn_room t y 1 (length ws) e
+room_of t y ws (suc n) e = room_of t y ws n (step_from t y ws (suc (suc n)) (walked t y ws (suc n)) (walked t y ws (suc n)).told refl e)
+
+unstopped_of : (t : Table) (y : ℕ) (ws : List Warning) (n : ℕ) → (walked t y ws n).told ≡ fine tt → (i : ℕ) → 1 ≤ i → i ≤ n → (course t y i).fault ≡ None
+unfolding walked
+unstopped_of t y ws zero e i one le = absurd (omega (arith, one, le))
+unstopped_of t y ws (suc n) e i one le =
+    let before = step_from t y ws (suc n) (walked t y ws n) (walked t y ws n).told refl e in
+    let now = turn_faultless t y (suc n) _ (sym (ap (λ z. (step_by t y (suc n) (walked t y ws n) z).told) before) ∙ e) in
+    or_last (λ j. (course t y j).fault ≡ None) n i le (unstopped_of t y ws n before i one) now
+
+was_free : (k : Kept) (d : ℕ) → (reserving k d).answer ≡ Ok tt → (entry k d).reserved ≡ false
+unfolding reserving
+was_free k d h = grind arith
+
+place_left : (k : Kept) (d : ℕ) → (reserving k d).answer ≡ Ok tt → holds k d ≡ false → length k.held < k.places
+unfolding reserving
+place_left k d h absent = grind arith
+
+had_place : (k : Kept) (d : ℕ) → (reserving k d).answer ≡ Ok tt → (holds k d ≡ true) ⊎ (length k.held < k.places)
+had_place k d h = go (holds k d) refl
+  where
+    go : (b : Bool) → holds k d ≡ b → (holds k d ≡ true) ⊎ (length k.held < k.places)
+    go true is = inl is
+    go false is = inr (place_left k d h is)
 
 -- ---- a job
 module _ (rd : ℤ → ℕ → ℤ) (t : Table) (d : ℕ) (bills : List Amounts) (ws : List Warning) (k : Kept) where
@@ -256,11 +297,39 @@ module _ (f : DayFile) (ws : List Warning) (book : List ℕ) where
         ∙ ap (λ a. answered (bills_by a (before_of (entry k f.day)) (job_of f ws k).bills)) (job_taken half_away (table_of f) f.day no_bills ws k s w no_bills_long)
         ∙ ap (λ rows. answered (bills_by (fine (shares (run_of f))) (before_of (entry k f.day)) rows)) (job_rows half_away (table_of f) f.day no_bills ws k s w no_bills_long)
 
+    ready_by : (n u : ℕ) (b : Bills) (a : Told ℕ) → checked f.bytes.now ≡ fine n → image_read book ≡ Ok u → (job_of f ws (opened book)).answer ≡ a → bills_by a (before_of (entry (opened book) f.day)) (job_of f ws (opened book)).bills ≡ fine b → Ready f ws book
+    ready_by n u b (fine c) is read said h =
+        let w = worked_by half_away (table_of f) f.day no_bills ws (opened book) c said in
+        record {
+          lines = n;
+          sound = is;
+          days = u;
+          read = read;
+          day = reserved_within (opened book) f.day w.reserved;
+          unreserved = was_free (opened book) f.day w.reserved;
+          place = had_place (opened book) f.day w.reserved;
+          room = room_of (table_of f) f.day ws 95 w.walked_all;
+          unstopped = unstopped_of (table_of f) f.day ws last_interval w.walked_all;
+        }
+    ready_by n u b (refuse i us) is read said h = absurd (let g : refuse i us ≡ fine b = h in cc)
+
+    needed : (b : Bills) → (posted f ws book).answer ≡ answered (fine b) → Ready f ws book
+    needed b h = go (checked f.bytes.now) (image_read book) refl refl
+      where
+        go : (a : Told ℕ) (r : Result ℕ ImageFault) → checked f.bytes.now ≡ a → image_read book ≡ r → Ready f ws book
+        go (refuse n vs) r is read = absurd (let g : answered (refuse n vs) ≡ answered (fine b) = sym (ap (λ o. o.answer) (left_by_file n vs is)) ∙ h in cc)
+        go (fine n) (Err e) is read = absurd (let g : no_book e ≡ answered (fine b) = sym (ap (λ o. o.answer) (left_by_book n e is read)) ∙ h in cc)
+        go (fine n) (Ok u) is read =
+            let g : answered (bills_of f ws (opened book)) ≡ answered (fine b) = sym (ap (λ o. o.answer) (done_by n u is read)) ∙ h in
+            let i : bills_of f ws (opened book) ≡ fine b = cc in
+            ready_by n u b (job_of f ws (opened book)).answer is read refl i
+
     pub posts_file : PostsFile f ws book
     posts_file = record {
       bad_file = λ n vs is. ap (λ o. o.answer) (left_by_file n vs is);
       bad_book = λ n e is broken. ap (λ o. o.answer) (left_by_book n e is broken);
       taken = posted_ready;
+      needed = needed;
       changed = changed;
       refused = refused;
       unread = unread;

@@ -7,6 +7,7 @@ use Rattle.intervals.specs.declared.warning.Warning.{Warning}
 use Rattle.intervals.specs.Courses.{course, warning_rows}
 use Rattle.runs.specs.Sheets.{rows_of}
 use Rattle.detfile.specs.Files.{checked}
+use Rattle.books.specs.declared.place.Place.{Place}
 use Rattle.books.specs.Kept.{entry, holds}
 use Rattle.books.specs.Laws.{Changed}
 use Rattle.imagebook.specs.declared.fault.ImageFault.{ImageFault}
@@ -16,7 +17,7 @@ use Rattle.settlement.specs.declared.dayfile.DayFile.{DayFile}
 use Rattle.settlement.specs.declared.bills.Bills.{Bills}
 use Rattle.settlement.specs.Tables.{table_of}
 use Rattle.settlement.specs.Refusals.{answered, no_book}
-use Rattle.settlement.specs.Postings.{no_bills, run_of, before_of, posted}
+use Rattle.settlement.specs.Postings.{no_bills, run_of, before_of, AfterPosting, posted}
 
 -- each is from 0 to 255
 abbrev pub AreBytes : List ℕ → Type 0
@@ -44,13 +45,21 @@ module _ (f : DayFile) (ws : List Warning) (book : List ℕ) where
     rows = billed entities (rows_of entities (run_of f)) (entry (opened book) f.day).amounts no_bills;
   }
 
-  -- THE POSTING OF A FILE, in words. A file that is refused is answered with its refusal, and else bytes that are no book's with their fault. What
-  -- is ready is posted, and billed as it is due. Where a file is posted, the new bytes mean a book that has the run's totals for the day, as
-  -- billed and not reserved, and all other days as they were; where it is not, the bytes are as they were
+  -- what the book then keeps of the day: the run's totals, billed and not reserved
+  abbrev pub billed_day : Place
+  billed_day = settled f.day (rows_of entities (run_of f))
+
+  abbrev pub after : AfterPosting
+  after = posted f ws book
+
+  -- THE POSTING OF A FILE, in words. A file that is refused is answered with its refusal, and else bytes that are no book's with their fault. It
+  -- is posted just where all is ready, and billed then as it is due, and the new bytes mean a book that has the run's totals for the day, as billed
+  -- and not reserved, and all other days as they were. Where it is not posted, the bytes are as they were
   pub record PostsFile : Type 0 where
-    pub bad_file : (n : ℕ) (vs : List ℕ) → checked f.bytes.now ≡ refuse n vs → (posted f ws book).answer ≡ answered (refuse n vs)
-    pub bad_book : (n : ℕ) (e : ImageFault) → checked f.bytes.now ≡ fine n → image_read book ≡ Err e → (posted f ws book).answer ≡ no_book e
-    pub taken : Ready → (posted f ws book).answer ≡ answered (fine due)
-    pub changed : (b : Bills) → (posted f ws book).answer ≡ answered (fine b) → Changed (opened book) f.day (settled f.day (rows_of entities (run_of f))) (opened (posted f ws book).book)
-    pub refused : (n : ℕ) (vs : List ℕ) → (posted f ws book).answer ≡ answered (refuse n vs) → (posted f ws book).book ≡ book
-    pub unread : (e : ImageFault) → (posted f ws book).answer ≡ no_book e → (posted f ws book).book ≡ book
+    pub bad_file : (n : ℕ) (vs : List ℕ) → checked f.bytes.now ≡ refuse n vs → after.answer ≡ answered (refuse n vs)
+    pub bad_book : (n : ℕ) (e : ImageFault) → checked f.bytes.now ≡ fine n → image_read book ≡ Err e → after.answer ≡ no_book e
+    pub taken : Ready → after.answer ≡ answered (fine due)
+    pub needed : (b : Bills) → after.answer ≡ answered (fine b) → Ready
+    pub changed : (b : Bills) → after.answer ≡ answered (fine b) → Changed (opened book) f.day billed_day (opened after.book)
+    pub refused : (n : ℕ) (vs : List ℕ) → after.answer ≡ answered (refuse n vs) → after.book ≡ book
+    pub unread : (e : ImageFault) → after.answer ≡ no_book e → after.book ≡ book
