@@ -71,7 +71,7 @@ impl<R: Files + Clock + Print + Eprint + AllocGlobal> Console<'_, R> {
         teller.end()?;
         match worked {
             Ok(run) => self.say_run(reading, rows.as_slice(), &run),
-            // Both are said already.
+            // A refused file is said already; the day was looked at before.
             Err(Unworked::File(_) | Unworked::Day(_)) => Ok(false),
         }
     }

@@ -9,3 +9,4 @@ pub mod Opened
 pub mod Worked
 pub mod Accepted
 pub mod Posted
+pub mod Worded

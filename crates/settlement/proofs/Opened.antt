@@ -20,7 +20,7 @@ use Rattle.settlement.specs.declared.dayfile.DayFile.{DayFile}
 use Rattle.settlement.specs.declared.bills.Bills.{Bills}
 use Rattle.settlement.specs.Tables.{table_of}
 use Rattle.settlement.specs.Refusals.{Ended, answered, no_book}
-use Rattle.settlement.specs.Postings.{job_of, bills_of, Outcome, left, done, by_image, posted_sound, posted, heard_by_image, sound_watched, posted_watched}
+use Rattle.settlement.specs.Postings.{job_of, bills_of, AfterPosting, left, done, by_image, posted_sound, posted, heard_by_image, sound_watched, posted_watched}
 use Rattle.settlement.specs.Accounts.{most_places, new_image}
 
 pub new_sound : (places : ℕ) → places ≤ most_places → Sound (new_kept places)
@@ -113,7 +113,7 @@ module _ (f : DayFile) (ws : List Warning) (book : List ℕ) where
     same_is small same = image_is ∙ ap image_of (same ∙ was) ∙ read_exact book n small read
 
 -- where nothing was called on the book, the law stays
-pub law_left : (o : Outcome) (bytes book : List ℕ) → o.calls ≡ [] → bytes ≡ book → (h : History) → Accounts h (opened book) → Accounts (o.calls ++ h) (opened bytes)
+pub law_left : (o : AfterPosting) (bytes book : List ℕ) → o.calls ≡ [] → bytes ≡ book → (h : History) → Accounts h (opened book) → Accounts (o.calls ++ h) (opened bytes)
 law_left o bytes book none same h holds = rw (none, same) holds
 
 pub if_refused : {X E : Type 0} {P Q : Type 0} (r : Result X E) → (P → Q) → IfErr r (λ e. P) → IfErr r (λ e. Q)

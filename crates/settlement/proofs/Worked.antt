@@ -1,5 +1,5 @@
 -- The working of a file's day, over any table that answers as the file does about that day.
-use Rattle.std.proofs.Common.{◌≡◌, ℕ, List, ℤ, sym, ap, ◌∙◌, refl, arith}
+use Rattle.std.proofs.Common.{◌≡◌, ℕ, List, ℤ, Ok, Err, Result, IfOk, sym, ap, ◌∙◌, refl, arith}
 use Rattle.terms.specs.Told.{Told, fine}
 use Rattle.terms.specs.Limits.{last_interval}
 use Rattle.terms.specs.Sources.{Table}
@@ -10,12 +10,14 @@ use Rattle.detfile.specs.Refusals.{numbered}
 use Rattle.detfile.specs.Files.{checked}
 use Rattle.runs.specs.declared.refusal.DayRefusal.{DayRefusal}
 use Rattle.runs.specs.declared.refusal.DayRefusal.TheVariants.{OutOfRange}
+use Rattle.runs.specs.declared.refusal.IntervalRefusal.{IntervalRefusal}
 use Rattle.runs.specs.declared.work.Work.{Work}
 use Rattle.runs.specs.Refusals.{day_numbered}
 use Rattle.runs.specs.Days.{checking}
 use Rattle.runs.specs.Works.{WorkedBy}
 use Rattle.runs.specs.Sheets.{Said, said_of}
-use Rattle.jobs.specs.Days.{walked, watched, run_through}
+use Rattle.jobs.specs.Days.{walked, watched, reached, run_through, day_told}
+use Rattle.jobs.proofs.Walking.{reached_all, length_repeated}
 use Rattle.settlement.specs.declared.dayfile.DayFile.{DayFile}
 use Rattle.settlement.specs.SameDays.{SameDay}
 use Rattle.settlement.specs.Tables.{table_of}
@@ -79,3 +81,8 @@ module _ (f : DayFile) (ws : List Warning) where
 
     pub law_is : (w : Work) → WorkedBy (run_through f.day rd t ws) w → WorkedBy (run_worked_of f ws rd) w
     law_is w by = worked_by_same _ _ (through_same f.day t (table_of f) same rd ws) w by
+
+    -- where the run did not stop, all intervals were worked
+    pub whole_is : (w : Work) (r : Result (Unit {0}) IntervalRefusal) → day_told r ≡ (walked t f.day ws last_interval).told → WorkedBy (run_through f.day rd t ws) w → IfOk r (λ e. w.intervals ≡ last_interval)
+    whole_is w (Err e) told by = tt
+    whole_is w (Ok x) told by = by.intervals ∙ length_repeated (reached t f.day ws last_interval) t ∙ reached_all t f.day ws last_interval (sym told)

@@ -6,3 +6,4 @@ pub mod Postings
 pub mod Workings
 pub mod Accounts
 pub mod Lists
+pub mod Words

@@ -41,12 +41,12 @@ abbrev pub bills_by : Told ℕ → Before → List Amounts → Told Bills
 bills_by (fine c) x rows = fine (record { charged = c; before = x; rows = rows })
 bills_by (refuse n vs) x rows = refuse n vs
 
--- the answer of the job: what is billed, and what the book had of the day before
+-- the answer of the job: what is billed, and what the book had of the day until then
 abbrev pub bills_of : DayFile → List Warning → Kept → Told Bills
 bills_of f ws k = bills_by (job_of f ws k).answer (before_of (entry k f.day)) (job_of f ws k).bills
 
 -- after a posting: the book's bytes, how it ended, the list of warnings, and what was called on the book, the newest call first
-pub record Outcome : Type 0 where
+pub record AfterPosting : Type 0 where
   pub book : List ℕ
   pub answer : Ended Bills
   pub warnings : List Warning
@@ -54,11 +54,11 @@ pub record Outcome : Type 0 where
 
 module _ (f : DayFile) (ws : List Warning) (book : List ℕ) where
   -- nothing was called on the book
-  abbrev pub left : Ended Bills → Outcome
+  abbrev pub left : Ended Bills → AfterPosting
   left a = record { book = book; answer = a; warnings = ws; calls = [] }
 
   -- the job was done on the book that the bytes mean, and the new bytes are the image of what it leaves
-  abbrev pub done : Outcome
+  abbrev pub done : AfterPosting
   done = record {
     book = image_of (job_of f ws (opened book)).kept;
     answer = answered (bills_of f ws (opened book));
@@ -66,20 +66,20 @@ module _ (f : DayFile) (ws : List Warning) (book : List ℕ) where
     calls = (job_of f ws (opened book)).calls;
   }
 
-  abbrev pub by_image : Result ℕ ImageFault → Outcome
+  abbrev pub by_image : Result ℕ ImageFault → AfterPosting
   by_image (Ok n) = done
   by_image (Err e) = left (no_book e)
 
   -- the posting of a file that is sound
-  unfoldable pub posted_sound : Outcome
+  unfoldable pub posted_sound : AfterPosting
   posted_sound = by_image (image_read book)
 
-  abbrev pub by_file : Told ℕ → Outcome
+  abbrev pub by_file : Told ℕ → AfterPosting
   by_file (fine n) = posted_sound
   by_file (refuse n vs) = left (answered (refuse n vs))
 
   -- THE POSTING OF A FILE: the file is checked, then the book is opened, and then the job is done
-  unfoldable pub posted : Outcome
+  unfoldable pub posted : AfterPosting
   posted = by_file (checked f.bytes.now)
 
   module _ {S : Type 0} (tell : S → ℕ → List Warning → S) (s : S) where

@@ -27,7 +27,7 @@ working_told (Ok r) = fine (run_worked r)
 working_told (Err e) = unworked e
 
 -- after a working: how it ended, and the list of warnings
-pub record Outcome : Type 0 where
+pub record AfterWorking : Type 0 where
   pub answer : Told Worked
   pub warnings : List Warning
 
@@ -37,25 +37,25 @@ module _ (f : DayFile) (ws : List Warning) where
     abbrev pub run_worked_of : Trace
     run_worked_of = run_through f.day rounded (table_of f) ws
 
-    abbrev pub left : Told Worked → Outcome
+    abbrev pub left : Told Worked → AfterWorking
     left a = record { answer = a; warnings = ws }
 
-    abbrev pub done : Outcome
+    abbrev pub done : AfterWorking
     done = record {
       answer = fine (record { sheet = said_of run_worked_of; ended = (walked (table_of f) f.day ws last_interval).told });
       warnings = (walked (table_of f) f.day ws last_interval).warnings;
     }
 
-    abbrev pub by_day : Told ℕ → Outcome
+    abbrev pub by_day : Told ℕ → AfterWorking
     by_day (fine y) = done
     by_day (refuse n vs) = left (refuse n vs)
 
-    abbrev pub by_file : Told ℕ → Outcome
+    abbrev pub by_file : Told ℕ → AfterWorking
     by_file (fine n) = by_day (checking f.day)
     by_file (refuse n vs) = left (refuse n vs)
 
     -- THE WORKING OF A FILE: the file is checked, then the day, and then the day is worked under the rule
-    unfoldable pub worked : Outcome
+    unfoldable pub worked : AfterWorking
     worked = by_file (checked f.bytes.now)
 
   module _ {S : Type 0} (tell : S → ℕ → List Warning → S) (s : S) where

@@ -9,7 +9,7 @@ pub struct Before {
     pub amounts: [Amounts; ENTITIES],
 }
 
-// The charged shares of the run, what the book had of the day before, and what each entity is billed, in cents: below zero it is paid.
+// The charged shares of the run, what the book had of the day until then, and what each entity is billed, in cents: below zero it is paid.
 #[derive(Clone, Copy, Debug, PartialEq, Eq)]
 pub struct Bills {
     pub charged: u32,

@@ -4,6 +4,9 @@ ghost use Rattle.terms.specs.Sources.{Table};
 ghost use Rattle.settlement.specs.SameDays.{SameDay, SameRuns, SameWalks, SameJobs, SameWatched};
 ghost use Rattle.settlement.specs.Accounts.{Begins};
 ghost use Rattle.settlement.specs.Lists.{Filing, bytes_after, calls_of};
+ghost use Rattle.intervals.specs.declared.warning.Warning.{Warning};
+ghost use Rattle.settlement.specs.declared.dayfile.DayFile.{DayFile};
+ghost use Rattle.settlement.specs.Words.{AreBytes, PostsFile};
 
 use jobs::watch::Watch;
 
@@ -17,7 +20,9 @@ pub fn day_law<W: Watch>()
 {}
 
 // Whatever files are posted to the bytes of a new book, one after the other, each accepted or refused: the law of accounts holds between all that
-// was called on the book and what its bytes then mean.
+// was called on the book and what its bytes then mean. And what the posting of each file comes to, in words: when it is posted, what it bills, and
+// what the new bytes mean.
 pub fn postings_law()
-    ensures { (book : List ℕ) (ps : List Filing) → Begins (calls_of book ps) book (bytes_after book ps) }
+    ensures lists { (book : List ℕ) (ps : List Filing) → Begins (calls_of book ps) book (bytes_after book ps) }
+    ensures file { (f : DayFile) (ws : List Warning) (book : List ℕ) → AreBytes book → PostsFile f ws book }
 {}

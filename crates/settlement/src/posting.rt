@@ -90,7 +90,7 @@ fn post_to<B: Book, S: Source, W: Watch>(
     }
 }
 
-// Posts the file's day to the book that the bytes are, where they are one. The file is sound.
+// Posts the file's day to the book that the bytes are, where they are one. The verdict on the file is not looked at here.
 fn post_sound<S: Source, W: Watch>(
     book: Vec<u8>,
     reading: &Reading<'_, S>,
@@ -122,8 +122,9 @@ fn post_sound<S: Source, W: Watch>(
 }
 
 // Posts the day of a file to a book, which is handed over and handed back as its bytes. The day is reserved, worked by half away from zero and
-// posted; the list of warnings needs 256 rows, and the watch is told of each interval that is worked. Where the file is refused, the bytes are no
-// book's, or the day is not posted, the bytes are as they were.
+// posted; the list of warnings needs 256 rows, and the watch is told of each interval that is worked. Refused with 1 to 5 where the file is, with
+// the fault where the bytes are no book's, with 8 to 10 where the day cannot be reserved, and with 13 to 16 where an interval is refused. The
+// bytes are then as they were.
 pub fn post_file<S: Source, W: Watch>(
     book: Vec<u8>,
     reading: &Reading<'_, S>,

@@ -128,7 +128,7 @@ const STEPS: [Step; 9] = [
     ),
 ];
 
-// Posts a file to a book's bytes, and looks at all that comes of it.
+// Posts a file to a book's bytes, and looks at all that comes of it but the warning rows, which the trials of intervals and days look at.
 fn check_step<R: Abort + AllocGlobal, S: Source>(
     rt: &R,
     book: Vec<u8>,

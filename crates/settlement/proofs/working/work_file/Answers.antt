@@ -5,7 +5,7 @@ use Rattle.settlement.specs.SameDays.{SameDay}
 use Rattle.settlement.specs.Tables.{chosen, table_of}
 use Rattle.settlement.proofs.Billed.{chosen_same}
 use Rattle.settlement.proofs.DayWalked.{watched_same}
-use Rattle.settlement.proofs.Worked.{checked_day, worked_refused, worked_done, worked_no_day, heard_refused, heard_done, heard_no_day, worked_is, warnings_are, law_is}
+use Rattle.settlement.proofs.Worked.{checked_day, worked_refused, worked_done, worked_no_day, heard_refused, heard_done, heard_no_day, worked_is, warnings_are, law_is, whole_is}
 use Rattle.settlement.proofs.working.work_file.Goals as goal
 
 pub returns-in-Ok-try_from : goal.returns-in-Ok-try_from
@@ -25,6 +25,7 @@ returns-in-Ok-try_from g c =
       warnings = warnings_are f ws t same rd _ w.warnings is;
       watch = w.watch ∙ watched_same f.day t (table_of f) same g.W.Watch.told ws _ last_interval ∙ heard_done f ws g.W.Watch.told _ c.in-Ok.field-0 _ c.in-Ok.ensures day;
       law = law_is f ws t same rd _ w.law;
+      whole = whole_is f ws t same rd _ _ w.told w.law;
     }
 
 pub returns-in-Err : goal.returns-in-Err
@@ -38,6 +39,7 @@ returns-in-Err g c =
       warnings = ap (λ o. o.warnings) (sym is);
       watch = heard_refused f ws g.W.Watch.told _ c.in-Err.refusal c.in-Err.ensures;
       law = tt;
+      whole = tt;
     }
 
 pub returns-in-Err-try_from : goal.returns-in-Err-try_from
@@ -52,4 +54,5 @@ returns-in-Err-try_from g c =
       warnings = ap (λ o. o.warnings) (sym is);
       watch = heard_no_day f ws g.W.Watch.told _ c.in-Ok.field-0 c.in-Err-try_from.refusal c.in-Ok.ensures day;
       law = tt;
+      whole = tt;
     }
