@@ -53,34 +53,18 @@ type Step = (
 
 // One after the other, on a book of one place.
 const STEPS: [Step; 9] = [
-    (
-        b"x",
-        9,
-        false,
-        256,
-        0,
-        Err(2),
-        (false, &[]),
-    ),
-    (
-        FIRST_FILE,
-        65_536,
-        false,
-        256,
-        0,
-        Err(8),
-        (false, &[]),
-    ),
+    (b"x", 9, false, 256, 0, Err(2), (false, &[])),
+    (FIRST_FILE, 65_536, false, 256, 0, Err(8), (false, &[])),
+    (FIRST_FILE, 9, false, 255, 0, Err(13), (false, &[])),
     (
         FIRST_FILE,
         9,
         false,
-        255,
-        0,
-        Err(13),
+        256,
+        96,
+        Ok(&FIRST_TOTALS),
         (false, &[]),
     ),
-    (FIRST_FILE, 9, false, 256, 96, Ok(&FIRST_TOTALS), (false, &[])),
     (
         STOPPED_FILE,
         9,
@@ -99,24 +83,8 @@ const STEPS: [Step; 9] = [
         Ok(&DEARER_BILLS),
         (true, &FIRST_TOTALS),
     ),
-    (
-        FIRST_FILE,
-        10,
-        false,
-        256,
-        0,
-        Err(10),
-        (false, &[]),
-    ),
-    (
-        GAP_FILE,
-        9,
-        false,
-        256,
-        1,
-        Err(14),
-        (true, &DEARER_TOTALS),
-    ),
+    (FIRST_FILE, 10, false, 256, 0, Err(10), (false, &[])),
+    (GAP_FILE, 9, false, 256, 1, Err(14), (true, &DEARER_TOTALS)),
     (
         GAP_FILE,
         9,
@@ -165,7 +133,12 @@ fn check_steps<R: Abort + AllocGlobal>(rt: &R, direct: bool) -> Result<Vec<u8>, 
         book = if direct {
             check_step(rt, book, &Reading::direct(file), step)?
         } else {
-            check_step(rt, book, &Reading::tabled(Room::new(rt.alloc())?, file), step)?
+            check_step(
+                rt,
+                book,
+                &Reading::tabled(Room::new(rt.alloc())?, file),
+                step,
+            )?
         };
     }
     Ok(book)

@@ -49,7 +49,10 @@ fn check_working<S: Source>(
     match work_file(reading, Rule::Even, &mut [BLANK; 256], &mut counter) {
         Ok(run) => {
             check_sheet(rt, &run.sheet, intervals);
-            assert_eq!(rt; run.ended.err().map_or(0, |refusal| refusal.number()), number);
+            assert_eq!(rt;
+                run.ended.err().map_or(0, |refusal| refusal.number()),
+                number
+            );
         }
         Err(refusal) => assert_eq!(rt; Some(refusal), None),
     }
