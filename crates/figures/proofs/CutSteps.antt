@@ -1,11 +1,12 @@
--- One step of the walk to a mark, and where the parts of a cut stand.
-use Rattle.std.proofs.Common.{◌≡◌, ℕ, suc, ◌+◌, Bool, true, false, not, cond, eqb, ltb, List, [], ◌∷◌, ◌++◌, length, take, drop, Some, None, Option, sym, refl, ap, ◌∙◌, append_assoc, append-nil, add-one, arith}
+-- One step of the walk to a mark, where the parts of a cut stand, and how many spaces a line has at most.
+use Rattle.std.proofs.Common.{◌≡◌, ℕ, suc, ◌+◌, ◌≤◌, Bool, true, false, not, cond, eqb, ltb, List, [], ◌∷◌, ◌++◌, length, take, drop, Some, None, Option, sym, refl, ap, ◌∙◌, append_assoc, append-nil, add-one, arith}
 use Rattle.std.specs.List.{position, position_or_len}
 use Rattle.std.specs.Option.{option_map}
 use Rattle.std.proofs.lemmas.List.{take_all, drop_all, take_at, drop_at, length_push}
 use Rattle.std.proofs.lemmas.Bool.{eqb-true, lt-ltb}
 use Prim.Native.Nat.compare
-use Rattle.figures.specs.Cuts.{cut, cut_on, before, beyond, first_field, past_field, Placed}
+use Rattle.std.proofs.lemmas.List.Sums.{count_by-le-length}
+use Rattle.figures.specs.Cuts.{cut, cut_on, before, beyond, first_field, past_field, spaces, Placed}
 
 -- a cut is made at the first place of the mark
 abbrev parts_at : List ℕ → List ℕ → ℕ → List ℕ × List ℕ
@@ -49,7 +50,7 @@ past_dropped : (m : ℕ) (xs ys : List ℕ) → drop (length xs + 1) (xs ++ m �
 past_dropped m xs ys =
     ap (drop (length xs + 1)) (sym (append_assoc xs (m ∷ []) ys)) ∙ drop_at (xs ++ m ∷ []) ys (length xs + 1) (length_push xs m)
 
-placed_cut : (m : ℕ) (bs : List ℕ) (p : List ℕ × List ℕ) → Some p ≡ cut m bs → Placed bs p.0 p.1
+pub placed_cut : (m : ℕ) (bs : List ℕ) (p : List ℕ × List ℕ) → Some p ≡ cut m bs → Placed bs p.0 p.1
 placed_cut m bs p e =
     let w = cut_parted m bs p e in
     record { front = sym (ap (take (length p.0)) w ∙ take_at p.0 (m ∷ p.1) (length p.0) refl); past = sym (ap (drop (length p.0 + 1)) w ∙ past_dropped m p.0 p.1) }
@@ -60,3 +61,7 @@ placed_by bs (Some p) e = placed_cut 32 bs p e
 
 pub placed : (bs : List ℕ) → Placed bs (first_field bs) (past_field bs)
 placed bs = placed_by bs (cut 32 bs) refl
+
+-- a line has no more spaces than bytes
+pub few_spaces : (bs : List ℕ) → spaces bs ≤ length bs
+few_spaces bs = count_by-le-length (λ b. eqb b 32) bs

@@ -22,9 +22,10 @@ pub fn cut_field(line: &[u8]) -> (&[u8], &[u8])
 }
 
 // How many spaces a line has: one less than its fields.
+#[tactic(auto, using(crate::proofs::CutSteps::few_spaces))]
 pub fn count_spaces(line: &[u8]) -> usize
     ensures value { result ≡ spaces line.now }
     ensures bound { result ≤ length line.now }
 {
-    line.iter().filter(|b| **b == b' ').count()
+    line.iter().map(|b| usize::from(*b == b' ')).sum()
 }

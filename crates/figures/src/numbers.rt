@@ -66,6 +66,9 @@ pub fn short_number(field: &[u8]) -> Option<u32>
     number_of(field, 5).map(|n| n as u32)
 }
 
+// Ten to the power of each index.
+static POWERS_OF_TEN: [u64; 7] = [1, 10, 100, 1_000, 10_000, 100_000, 1_000_000];
+
 // `n` times ten to the number of `places`.
 fn shifted(n: u64, places: usize) -> u64
     requires ten_digits { n < 10000000000 }
@@ -73,7 +76,7 @@ fn shifted(n: u64, places: usize) -> u64
     ensures value { result ≡ n * 10 ^ places }
     ensures bound { result ≤ n * 1000000 }
 {
-    n * 10u64.pow(places as u32)
+    n * POWERS_OF_TEN[places]
 }
 
 // A figure with no sign, times ten to the decimals.
