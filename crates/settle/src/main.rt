@@ -24,6 +24,7 @@ use console::{Call, Console};
 use std::cell::Cell;
 use std::env;
 use std::fs::File;
+use std::io::Read;
 use std::os::fd::AsRawFd;
 use std::process::ExitCode;
 use std::rt::{Env, Files, Runtime};
@@ -34,7 +35,7 @@ const STREAMS: i32 = 3;
 // Status 1 where the one command of a call found something wrong, which it has said, and where input or output fails.
 fn main(rt: HostRuntime) -> ExitCode {
     let unheard = Cell::new(false);
-    match run(&rt, &unheard) {
+    match run(&rt, rt.stdin(), &unheard) {
         Ok(sound) if sound && !unheard.get() => ExitCode::SUCCESS,
         Ok(_) => ExitCode::FAILURE,
         Err(e) => {
@@ -44,8 +45,10 @@ fn main(rt: HostRuntime) -> ExitCode {
     }
 }
 
-fn run<R: Runtime + Files<File = File> + AllocGlobal>(
+// With no argument the commands are those of the input.
+fn run<R: Runtime + Files<File = File> + AllocGlobal, I: Read + Drop>(
     rt: &R,
+    input: I,
     unheard: &Cell<bool>,
 ) -> anyhow::Result<bool> {
     let _streams = hold_streams(rt)?;
@@ -55,7 +58,7 @@ fn run<R: Runtime + Files<File = File> + AllocGlobal>(
         return console.refuse("the arguments cannot be read; each must be UTF-8 text");
     };
     if arguments.is_empty() {
-        script::run(rt, unheard)?;
+        script::run(rt, input, unheard)?;
         return Ok(true);
     }
     let words: Vec<&str> = arguments

@@ -5,7 +5,7 @@ use messages::printable::Printable;
 use std::cell::Cell;
 use std::fmt::Display;
 use std::fs::File;
-use std::io::{BufRead, BufReader};
+use std::io::{BufRead, BufReader, Read};
 use std::rt::{Clock, Files};
 use std::str::from_utf8;
 
@@ -80,11 +80,8 @@ impl<R: Files<File = File> + Clock + Print + Eprint + AllocGlobal> Console<'_, R
         Ok(false)
     }
 
-    // A line of a script, unless it is a comment.
+    // A line of a script.
     fn line(&self, line: &[u8]) -> anyhow::Result<()> {
-        if line.trim_ascii_start().starts_with(b"#") {
-            return Ok(());
-        }
         let Ok(text) = from_utf8(line) else {
             self.complain("the line is not UTF-8 text")?;
             return Ok(());
@@ -95,19 +92,30 @@ impl<R: Files<File = File> + Clock + Print + Eprint + AllocGlobal> Console<'_, R
     }
 }
 
-// Each line of standard input; the usage text where there is none.
-pub(crate) fn run<R: Files<File = File> + Clock + Input + Print + Eprint + AllocGlobal>(
+// Whether a line of a script is passed over: it is blank, or a comment. `run` asks this first, so that such a line does not pay for the frame of
+// a command.
+fn is_passed_over(line: &[u8]) -> bool {
+    matches!(line.trim_ascii_start(), [] | [b'#', ..])
+}
+
+// Each line of the input; the usage text where there is none.
+pub(crate) fn run<R: Files<File = File> + Clock + Print + Eprint + AllocGlobal, I: Read + Drop>(
     rt: &R,
+    input: I,
     unheard: &Cell<bool>,
 ) -> anyhow::Result<()> {
-    let input = BufReader::new(rt.alloc(), rt.reader())?;
-    let mut lines = (1..).zip(input.split(rt.alloc(), b'\n')).peekable();
-    if lines.peek().is_none() {
-        rt.println(USAGE)?;
+    let input = BufReader::new(rt.alloc(), input)?;
+    let mut empty = true;
+    for (number, line) in (1..).zip(input.split(rt.alloc(), b'\n')) {
+        empty = false;
+        let line = line?;
+        if !is_passed_over(&line) {
+            let call = Call::Script(number);
+            Console { rt, call, unheard }.line(&line)?;
+        }
     }
-    for (number, line) in lines {
-        let call = Call::Script(number);
-        Console { rt, call, unheard }.line(line?.as_slice())?;
+    if empty {
+        rt.println(USAGE)?;
     }
     Ok(())
 }
