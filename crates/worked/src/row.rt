@@ -1,9 +1,8 @@
 // A row of the table.
-ghost use Rattle.std.specs.Prelude.{◌≡◌, ℕ, List};
+ghost use Rattle.std.specs.Prelude.{◌≡◌};
 
 use amounts::readings::Readings;
 use rounding::rules::Rule;
-use std::marker::Model;
 use terms::determinant::Determinant;
 
 // A Resource's readings at a price of reactive energy.
@@ -13,26 +12,30 @@ pub struct Priced {
     pub readings: Readings,
 }
 
-// The bytes of a field. Contracts see them as a list.
-#[derive(Drop)]
-pub struct Text(pub(crate) &'static [u8]);
-
-impl Model for Text {
-    ghost Value = { List ℕ };
-
-    ghost view = { λ text. text.0.now };
+// A field as it is written.
+#[derive(Clone, Copy)]
+pub enum Text {
+    // 2.65
+    TwoDecimals,
+    // 2.650
+    ThreeDecimals,
 }
 
 impl Text {
+    ghost use Rattle.worked.specs.Worked.{written};
+
     pub fn bytes(&self) -> &'static [u8]
-        ensures { result.now ≡ self.now }
+        ensures { result.now ≡ written self.now }
     {
-        self.0
+        match self {
+            Text::TwoDecimals => b"2.65",
+            Text::ThreeDecimals => b"2.650",
+        }
     }
 }
 
 // What a row is given.
-#[derive(Drop)]
+#[derive(Clone, Copy)]
 pub enum Figures {
     // For VSSVARAMT.
     Reactive(Priced),
@@ -43,7 +46,7 @@ pub enum Figures {
     // For the VSSVARAMT of a bill to a QSE with one Resource: the Resource in the run, none where the QSE is absent from it, and in the
     // run that was billed before.
     Bill(Option<Priced>, Priced),
-    // For a stored number: the bytes of a determinant's field. The determinant says how many decimals a figure has at most.
+    // For a stored number: a determinant's field. The determinant says how many decimals a figure has at most.
     Field(Determinant, Text),
 }
 
@@ -59,7 +62,7 @@ pub enum Outcome {
 }
 
 // `expected` is what must come of the figures by the rule.
-#[derive(Drop)]
+#[derive(Clone, Copy)]
 pub struct Row {
     pub rule: Rule,
     pub figures: Figures,
